@@ -1,0 +1,4 @@
+pub use Rattle.bx_logic.specs.Op
+pub mod Module
+pub mod Chain
+pub mod Reads

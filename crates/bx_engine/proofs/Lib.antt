@@ -1,3 +1,4 @@
 pub mod Table
 pub mod Valuations
 pub mod Chains
+pub mod Columns

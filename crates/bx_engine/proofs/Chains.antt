@@ -1,15 +1,14 @@
 -- What a chain gives its output: the value of its input, negated once for each `not`. A valuation of
 -- its nets is made statement by statement, which the names allow since they differ.
-use Rattle.std.proofs.Common.{◌≡◌, ℕ, zero, suc, ◌+◌, ◌<◌, Bool, true, false, not, List, [], ◌∷◌, length, map, refl, sym, ◌∙◌, ap, arith, inl, inr, ◌≢◌}
-use Rattle.std.specs.Prelude.{if◌then◌else◌, ◌⊎◌, Contains, cond, bytes_eq, sum_by}
+use Rattle.std.proofs.Common.{◌≡◌, ℕ, zero, suc, ◌+◌, Bool, not, List, [], ◌∷◌, map, refl, sym, ◌∙◌, ap, arith, inl, inr, ◌≢◌}
+use Rattle.std.specs.Prelude.{if◌then◌else◌, Contains, cond, bytes_eq}
 use Rattle.std.specs.List.{AllByRecursion}
 use Rattle.std.proofs.lemmas.Bool.{false_from_ne_true}
 use Rattle.std.proofs.lemmas.List.Sums.{sum_by-cons}
 use Rattle.std.proofs.lemmas.Slice.Eq.{bytes_eq-Decides}
-use Rattle.bx_logic.specs.declared.op.Op.{Op}
 use Rattle.bx_logic.specs.declared.op.Op.TheVariants.{Buf, Not}
 use Rattle.bx_logic.specs.Op.{op_value}
-use Rattle.bx_verilog.specs.Module.{Text, Equation, Module, Assignment, Meets, IsValuation, Gives}
+use Rattle.bx_verilog.specs.Module.{Text, Equation, Module, Assignment, Meets, Gives}
 use Rattle.bx_verilog.specs.Chain.{Chain, Statement, IsChain, IsUnary, Follows, last_net, AreDistinct, targets, is_not, inversions, equation_of, module_of}
 use Rattle.bx_engine.specs.Grids.{IsUsed}
 
@@ -39,13 +38,13 @@ chain-value v net (s ∷ ss) f u m =
     let rest : v (last_net s.target ss) ≡ flips (inversions ss) (v s.target) = chain-value v s.target ss f.1 u.1 m.1 in
     let here : v s.target ≡ op_value s.op (v net ∷ []) = m.0 ∙ ap (λ n. op_value s.op (v n ∷ [])) f.0 in
     elim u.0 [
-        inl e ↦ rest
-            ∙ ap (flips (inversions ss)) (here ∙ ap (λ op. op_value op (v net ∷ [])) e)
-            ∙ ap (λ n. flips n (v net)) (sym (inversions-buf s ss e))
+      | inl e ↦ rest
+          ∙ ap (flips (inversions ss)) (here ∙ ap (λ op. op_value op (v net ∷ [])) e)
+          ∙ ap (λ n. flips n (v net)) (sym (inversions-buf s ss e))
       | inr e ↦ rest
-            ∙ ap (flips (inversions ss)) (here ∙ ap (λ op. op_value op (v net ∷ [])) e)
-            ∙ flips-not (inversions ss) (v net)
-            ∙ ap (λ n. flips n (v net)) (sym (inversions-not s ss e))
+          ∙ ap (flips (inversions ss)) (here ∙ ap (λ op. op_value op (v net ∷ [])) e)
+          ∙ flips-not (inversions ss) (v net)
+          ∙ ap (λ n. flips n (v net)) (sym (inversions-not s ss e))
     ]
 
 -- v with another value for one net
@@ -83,11 +82,14 @@ extend-meets v net (s ∷ ss) f d =
 -- what the module of a chain gives its output
 pub chain-gives : (c : Chain) → IsChain c → (a : Assignment) → Gives (module_of c) a c.output (flips (inversions c.statements) (a c.input))
 chain-gives c h a = record {
-    some = (extend a c.statements, record {
-        inputs = (extend-keeps a c.statements c.input h.distinct.0, tt);
-        equations = extend-meets a c.input c.statements h.follows h.distinct
-    });
-    every = λ v is. ap v (sym h.ends) ∙ chain-value v c.input c.statements h.follows h.unary is.equations ∙ ap (flips (inversions c.statements)) is.inputs.0
+  some = (
+    extend a c.statements,
+    record {
+      inputs = (extend-keeps a c.statements c.input h.distinct.0, tt);
+      equations = extend-meets a c.input c.statements h.follows h.distinct;
+    },
+  );
+  every = λ v is. ap v (sym h.ends) ∙ chain-value v c.input c.statements h.follows h.unary is.equations ∙ ap (flips (inversions c.statements)) is.inputs.0;
 }
 
 Contains-next : {X : Type 0} (x : X) (xs : List X) (y : X) → Contains xs y → Contains (x ∷ xs) y

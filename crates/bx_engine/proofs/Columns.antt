@@ -1,20 +1,18 @@
 -- The column of k inversions is sound, and its output tile reads the value of its input tile, negated
 -- k times. Each tile but the first takes, and each but the last sends, on the side that its row has.
-use Rattle.std.proofs.Common.{◌≡◌, ℕ, zero, suc, ◌+◌, ◌*◌, ◌/◌, ◌%◌, ◌<◌, ◌≤◌, Bool, true, false, not, List, [], ◌∷◌, ◌++◌, length, map, get_or, Some, None, refl, sym, ◌∙◌, ap, subst, arith, inl, inr, ◌≢◌}
-use Rattle.std.specs.Prelude.{Option, if◌then◌else◌, nat_lt, nat_le, ◌==◌, ◌&&◌, ◌⊎◌, option_map, IsTrue, IsSome}
-use Rattle.std.specs.List.{range_with_len}
+use Rattle.std.proofs.Common.{◌≡◌, ℕ, zero, suc, ◌+◌, ◌*◌, ◌%◌, ◌<◌, ◌≤◌, Bool, true, false, not, List, [], ◌∷◌, get_or, Some, None, refl, sym, ◌∙◌, ap, subst, arith, inl, inr}
+use Rattle.std.specs.Prelude.{Option, if◌then◌else◌, ◌⊎◌, option_map, IsTrue, IsSome}
 use Rattle.std.proofs.lemmas.Bool.{cases_Bool, cases_lt, cases_eq, eqb-true, eqb-false, ne_eqb, eq-eqb, le-leb, lt-leb, lt-ltb}
 use Rattle.std.proofs.lemmas.List.FromFn.{get_or-map-range_with_len}
 use Rattle.bx_logic.specs.Op.{first_value}
 use Rattle.bx_engine.specs.declared.grid.Ratio.{Ratio}
-use Rattle.bx_engine.specs.declared.forms.Kind.{Kind}
 use Rattle.bx_engine.specs.declared.forms.Kind.TheVariants.{Input, Output, Not}
 use Rattle.bx_engine.specs.declared.forms.Side.{Side}
 use Rattle.bx_engine.specs.declared.forms.Side.TheVariants.{Left, Right}
 use Rattle.bx_engine.specs.declared.forms.Shape.{Shape}
 use Rattle.bx_engine.specs.Forms.{opposite, shape_of, shape_takes, shape_sends, shape_holds}
-use Rattle.bx_engine.specs.Tiles.{size, x_of, y_of, is_odd, before, column_beside, tile_at, above, below, border, entering}
-use Rattle.bx_engine.specs.Grids.{FormGrid, shape_in, shape_at, takes, sends, sends_from, Holds, IsEmpty, IsSound, value_of, reads, shape_value, sent, IsBorderValuation}
+use Rattle.bx_engine.specs.Tiles.{x_of, y_of, is_odd, before, column_beside, tile_at, above, below, border, entering}
+use Rattle.bx_engine.specs.Grids.{FormGrid, shape_in, shape_at, takes, sends, sends_from, Holds, IsSound, value_of, reads, shape_value, sent, IsBorderValuation}
 use Rattle.bx_engine.specs.Columns.{column, column_form, input_r, output_l, output_r, not_ll, not_rr}
 use Rattle.bx_engine.proofs.Chains.{flips}
 
@@ -25,7 +23,7 @@ way false = Right
 
 is_odd-suc : (t : ℕ) → is_odd (suc t) ≡ not (is_odd t)
 is_odd-suc t = elim (cases_Bool (is_odd t)) [
-    inl e ↦ let odd = eqb-true (t % 2) 1 e in ne_eqb (suc t % 2) 1 (λ q. omega arith) ∙ ap not (sym e)
+  | inl e ↦ let odd = eqb-true (t % 2) 1 e in ne_eqb (suc t % 2) 1 (λ q. omega arith) ∙ ap not (sym e)
   | inr e ↦ let even = eqb-false (t % 2) 1 e in eq-eqb (suc t % 2) 1 (omega arith) ∙ ap not (sym e)
 ]
 
@@ -42,13 +40,13 @@ cases_side false Right = inl refl
 
 -- where the tiles of one column stand
 
-abbrev ratio : ℕ → Ratio
+abbrev pub ratio : ℕ → Ratio
 ratio k = record { w = 1; h = k + 2 }
 
 x_of-column : (k t : ℕ) → x_of (ratio k) t ≡ 0
 x_of-column k t = omega arith
 
-y_of-column : (k t : ℕ) → y_of (ratio k) t ≡ t
+pub y_of-column : (k t : ℕ) → y_of (ratio k) t ≡ t
 y_of-column k t = omega arith
 
 beside-way : (r : Ratio) (b : Bool) (y : Option ℕ) → tile_at r (column_beside b (way b) 0) y ≡ tile_at r (Some 0) y
@@ -129,13 +127,13 @@ takes-first k Right = ap (shape_takes_at Right) (shape-first k)
 
 takes-way : (k t : ℕ) → 0 < t → t < k + 2 → takes (column k) t (way (is_odd t)) ≡ true
 takes-way k t p h = elim (cases_lt k t) [
-    inl l ↦ ap (shape_takes_at (way (is_odd t))) (shape-last k t (omega arith)) ∙ (last-uses (is_odd t)).0
+  | inl l ↦ ap (shape_takes_at (way (is_odd t))) (shape-last k t (omega arith)) ∙ (last-uses (is_odd t)).0
   | inr l ↦ ap (shape_takes_at (way (is_odd t))) (shape-inner k t p l) ∙ (inner-uses (is_odd t)).0
 ]
 
 takes-other : (k t : ℕ) → 0 < t → t < k + 2 → takes (column k) t (opposite (way (is_odd t))) ≡ false
 takes-other k t p h = elim (cases_lt k t) [
-    inl l ↦ ap (shape_takes_at (opposite (way (is_odd t)))) (shape-last k t (omega arith)) ∙ (last-uses (is_odd t)).1
+  | inl l ↦ ap (shape_takes_at (opposite (way (is_odd t)))) (shape-last k t (omega arith)) ∙ (last-uses (is_odd t)).1
   | inr l ↦ ap (shape_takes_at (opposite (way (is_odd t)))) (shape-inner k t p l) ∙ (inner-uses (is_odd t)).1
 ]
 
@@ -149,37 +147,37 @@ sends-other k (suc t) h = ap (shape_sends_at (opposite (way (is_odd (suc t))))) 
 
 sends-last : (k t : ℕ) (side : Side) → t ≡ k + 1 → sends (column k) t side ≡ false
 sends-last k t side h = ap (shape_sends_at side) (shape-last k t h) ∙ elim (cases_side (is_odd t) side) [
-    inl e ↦ ap (shape_sends (shape_of (last_form (is_odd t)))) e ∙ (last-uses (is_odd t)).2
+  | inl e ↦ ap (shape_sends (shape_of (last_form (is_odd t)))) e ∙ (last-uses (is_odd t)).2
   | inr e ↦ ap (shape_sends (shape_of (last_form (is_odd t)))) e ∙ (last-uses (is_odd t)).3
 ]
 
-holds-first : (k : ℕ) → Holds (column k) 0 Input
+pub holds-first : (k : ℕ) → Holds (column k) 0 Input
 holds-first k = ap shape_holds (shape-first k)
 
 holds-inner : (k t : ℕ) → 0 < t → t ≤ k → Holds (column k) t Not
 holds-inner k t p l = ap shape_holds (shape-inner k t p l) ∙ (inner-uses (is_odd t)).4
 
-holds-last : (k t : ℕ) → t ≡ k + 1 → Holds (column k) t Output
+pub holds-last : (k t : ℕ) → t ≡ k + 1 → Holds (column k) t Output
 holds-last k t h = ap shape_holds (shape-last k t h) ∙ (last-uses (is_odd t)).4
 
 -- a tile holds an input form only where it is the first, and an output form only where it is the last
 
 pub input-only : (k t : ℕ) → t < k + 2 → Holds (column k) t Input → t ≡ 0
 input-only k t h i = elim (cases_eq t 0) [
-    inl e ↦ e
+  | inl e ↦ e
   | inr ne ↦ elim (cases_lt k t) [
-        inl l ↦ let o : Holds (column k) t Output = holds-last k t (omega arith) in cc
-      | inr l ↦ let n : Holds (column k) t Not = holds-inner k t (omega arith) l in cc
-    ]
+    | inl l ↦ let o : Holds (column k) t Output = holds-last k t (omega arith) in cc
+    | inr l ↦ let n : Holds (column k) t Not = holds-inner k t (omega arith) l in cc
+  ]
 ]
 
 pub output-only : (k t : ℕ) → t < k + 2 → Holds (column k) t Output → t ≡ k + 1
 output-only k t h o = elim (cases_eq t 0) [
-    inl e ↦ let i : Holds (column k) t Input = subst (λ (n : ℕ). Holds (column k) n Input) (sym e) (holds-first k) in cc
+  | inl e ↦ let i : Holds (column k) t Input = subst (λ (n : ℕ). Holds (column k) n Input) (sym e) (holds-first k) in cc
   | inr ne ↦ elim (cases_lt k t) [
-        inl l ↦ omega arith
-      | inr l ↦ let n : Holds (column k) t Not = holds-inner k t (omega arith) l in cc
-    ]
+    | inl l ↦ omega arith
+    | inr l ↦ let n : Holds (column k) t Not = holds-inner k t (omega arith) l in cc
+  ]
 ]
 
 meets-column : (k t : ℕ) (side : Side) → t < k + 2 → takes (column k) t side ≡ sends_from (column k) (above (ratio k) t side) (opposite side)
@@ -187,22 +185,22 @@ meets-column k zero side h =
     let none : above (ratio k) 0 side ≡ None = elim side as (λ s. above (ratio k) 0 s ≡ None) [ Left ↦ refl | Right ↦ refl ] in
     takes-first k side ∙ ap (λ u. sends_from (column k) u (opposite side)) (sym none)
 meets-column k (suc t) side h = elim (cases_side (is_odd (suc t)) side) [
-    inl e ↦ rw e (takes-way k (suc t) (omega arith) h
-        ∙ sym (ap (λ u. sends_from (column k) u (opposite (way (is_odd (suc t))))) (above-way k t (omega arith))
-            ∙ ap (λ b. sends (column k) t (opposite (way b))) (is_odd-suc t)
-            ∙ ap (sends (column k) t) (opposite-way (is_odd t))
-            ∙ sends-way k t (omega arith)))
+  | inl e ↦ rw e (takes-way k (suc t) (omega arith) h
+      ∙ sym (ap (λ u. sends_from (column k) u (opposite (way (is_odd (suc t))))) (above-way k t (omega arith))
+      ∙ ap (λ b. sends (column k) t (opposite (way b))) (is_odd-suc t)
+      ∙ ap (sends (column k) t) (opposite-way (is_odd t))
+      ∙ sends-way k t (omega arith)))
   | inr e ↦ rw e (takes-other k (suc t) (omega arith) h
-        ∙ sym (ap (λ u. sends_from (column k) u (opposite (opposite (way (is_odd (suc t)))))) (above-other k (suc t))))
+      ∙ sym (ap (λ u. sends_from (column k) u (opposite (opposite (way (is_odd (suc t)))))) (above-other k (suc t))))
 ]
 
 stays-column : (k t : ℕ) (side : Side) → t < k + 2 → IsTrue (sends (column k) t side) → IsSome (below (ratio k) t side)
 stays-column k t side h s = elim (cases_lt k t) [
-    inl l ↦ let n : sends (column k) t side ≡ false = sends-last k t side (omega arith) in cc
+  | inl l ↦ let n : sends (column k) t side ≡ false = sends-last k t side (omega arith) in cc
   | inr l ↦ elim (cases_side (is_odd t) side) [
-        inl e ↦ rw (e, below-way k t (omega arith))
-      | inr e ↦ let n : sends (column k) t side ≡ false = ap (sends (column k) t) e ∙ sends-other k t l in cc
-    ]
+    | inl e ↦ rw (e, below-way k t (omega arith))
+    | inr e ↦ let n : sends (column k) t side ≡ false = ap (sends (column k) t) e ∙ sends-other k t l in cc
+  ]
 ]
 
 at-first : (k t : ℕ) → t ≡ 0 → Holds (column k) t Input
@@ -210,12 +208,12 @@ at-first k t e = subst (λ (n : ℕ). Holds (column k) n Input) (sym e) (holds-f
 
 pub column-sound : (k : ℕ) → IsSound (column k)
 column-sound k = record {
-    meets = λ t side h. meets-column k t side (omega arith);
-    stays = λ t side h s. stays-column k t side (omega arith) s;
-    inputs = λ t h i. y_of-column k t ∙ input-only k t (omega arith) i;
-    outputs = λ t h o. let e = output-only k t (omega arith) o in let y = y_of-column k t in omega arith;
-    first = λ t h e. inr (at-first k t (sym (y_of-column k t) ∙ e));
-    last = λ t h e. let y = y_of-column k t in inr (holds-last k t (omega arith))
+  meets = λ t side h. meets-column k t side (omega arith);
+  stays = λ t side h s. stays-column k t side (omega arith) s;
+  inputs = λ t h i. y_of-column k t ∙ input-only k t (omega arith) i;
+  outputs = λ t h o. let e = output-only k t (omega arith) o in let y = y_of-column k t in omega arith;
+  first = λ t h e. inr (at-first k t (sym (y_of-column k t) ∙ e));
+  last = λ t h e. let y = y_of-column k t in inr (holds-last k t (omega arith));
 }
 
 -- what a tile reads, and what goes out of it

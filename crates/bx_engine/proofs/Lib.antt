@@ -2,3 +2,4 @@ pub mod Table
 pub mod Valuations
 pub mod Chains
 pub mod Columns
+pub mod Layouts

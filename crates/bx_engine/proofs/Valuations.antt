@@ -1,17 +1,16 @@
 -- The borders of any form grid have exactly one valuation: what goes out of a tile is determined by
 -- the borders of lower number, so the values are made tile by tile.
-use Rattle.std.proofs.Common.{◌≡◌, ℕ, zero, suc, ◌+◌, ◌*◌, ◌-◌, ◌/◌, ◌%◌, ◌<◌, ◌≤◌, Bool, true, false, List, [], ◌∷◌, ◌++◌, length, get_or, Some, None, refl, sym, ◌∙◌, ap, subst, arith, inl, inr, length-append, add-one}
-use Rattle.std.specs.Prelude.{Option, if◌then◌else◌, nat_lt, ◌&&◌, ◌⊎◌, option_map}
+use Rattle.std.proofs.Common.{◌≡◌, ℕ, zero, suc, ◌+◌, ◌*◌, ◌<◌, ◌≤◌, Bool, true, false, List, [], ◌∷◌, ◌++◌, length, get_or, Some, None, refl, sym, ◌∙◌, ap, subst, arith, inl, inr, length-append}
+use Rattle.std.specs.Prelude.{Option, if◌then◌else◌, nat_lt, ◌&&◌, option_map}
 use Rattle.std.proofs.lemmas.Bool.{ltb-true, and_parts, cases_lt, cases_eq}
-use Rattle.std.proofs.lemmas.Bool.Decides.{nat_tests}
 use Rattle.std.proofs.lemmas.List.{ext_get_or, get_or_append_left, get_or-append-add}
 use Rattle.std.proofs.lemmas.Nat.{div-add-mod'}
 use Rattle.bx_engine.specs.declared.grid.Ratio.{Ratio}
 use Rattle.bx_engine.specs.declared.forms.Side.{Side}
 use Rattle.bx_engine.specs.declared.forms.Side.TheVariants.{Left, Right}
 use Rattle.bx_engine.specs.Forms.{opposite}
-use Rattle.bx_engine.specs.Tiles.{size, x_of, y_of, is_odd, before, column_beside, tile_at, above, border, entering}
-use Rattle.bx_engine.specs.Grids.{FormGrid, shape_at, takes, sends, value_of, reads, shape_value, sent, IsBorderValuation, IsOnlyBorderValuation}
+use Rattle.bx_engine.specs.Tiles.{tile_count, x_of, y_of, is_odd, before, column_beside, tile_at, above, border, entering}
+use Rattle.bx_engine.specs.Grids.{FormGrid, shape_at, sends, value_of, reads, shape_value, sent, IsBorderValuation, IsOnlyBorderValuation}
 
 -- the two lists have the same first n values
 abbrev pub AgreeBelow : ℕ → List Bool → List Bool → Type 0
@@ -88,39 +87,39 @@ made-each : (g : FormGrid) (given : ℕ → Bool) (n t : ℕ) (side : Side) → 
 made-each g given zero t side h = absurd (omega arith)
 made-each g given (suc n) t side h =
     elim (cases_lt t n) [
-        inl less ↦
-            made-more g given n (border t side) (let l = border-less t n side less in omega (arith, l))
-            ∙ made-each g given n t side less
-            ∙ sym (sent-local g given (made g given (suc n)) (made g given n) t side (λ j k. made-more g given n j (omega arith)))
+      | inl less ↦
+          made-more g given n (border t side) (let l = border-less t n side less in omega (arith, l))
+          ∙ made-each g given n t side less
+          ∙ sym (sent-local g given (made g given (suc n)) (made g given n) t side (λ j k. made-more g given n j (omega arith)))
       | inr ge ↦
-            let e : t ≡ n = omega arith in
-            subst (λ (m : ℕ). get_or (made g given (suc n)) (border m side) false ≡ sent g given (made g given (suc n)) m side) (sym e)
-                (made-here g given n side ∙ sym (sent-local g given (made g given (suc n)) (made g given n) n side (made-more g given n)))
+          let e : t ≡ n = omega arith in
+          subst (λ (m : ℕ). get_or (made g given (suc n)) (border m side) false ≡ sent g given (made g given (suc n)) m side) (sym e)
+          (made-here g given n side ∙ sym (sent-local g given (made g given (suc n)) (made g given n) n side (made-more g given n)))
     ]
 
 -- two valuations agree on the borders of the first n tiles
 valuations-agree : (g : FormGrid) (given : ℕ → Bool) (bs cs : List Bool) → IsBorderValuation g given bs → IsBorderValuation g given cs →
-    (n : ℕ) → n ≤ size g.ratio → AgreeBelow (2 * n) bs cs
+    (n : ℕ) → n ≤ tile_count g.ratio → AgreeBelow (2 * n) bs cs
 valuations-agree g given bs cs b c zero h j l = absurd (omega arith)
 valuations-agree g given bs cs b c (suc n) h j l =
     let earlier : AgreeBelow (2 * n) bs cs = valuations-agree g given bs cs b c n (omega arith) in
     let here : (side : Side) → get_or bs (border n side) false ≡ get_or cs (border n side) false =
-        λ side. b.each n side (omega arith) ∙ sent-local g given bs cs n side earlier ∙ sym (c.each n side (omega arith)) in
+    λ side. b.each n side (omega arith) ∙ sent-local g given bs cs n side earlier ∙ sym (c.each n side (omega arith)) in
     elim (cases_lt j (2 * n)) [
-        inl less ↦ earlier j less
+      | inl less ↦ earlier j less
       | inr ge ↦ elim (cases_eq j (2 * n)) [
-            inl e ↦ subst (λ (m : ℕ). get_or bs m false ≡ get_or cs m false) (sym e) (here Left)
-          | inr ne ↦ let e : j ≡ 2 * n + 1 = omega arith in
-                subst (λ (m : ℕ). get_or bs m false ≡ get_or cs m false) (sym e) (here Right)
-        ]
+        | inl e ↦ subst (λ (m : ℕ). get_or bs m false ≡ get_or cs m false) (sym e) (here Left)
+        | inr ne ↦ let e : j ≡ 2 * n + 1 = omega arith in
+            subst (λ (m : ℕ). get_or bs m false ≡ get_or cs m false) (sym e) (here Right)
+      ]
     ]
 
-pub only-valuation : (g : FormGrid) (given : ℕ → Bool) → IsOnlyBorderValuation g given (made g given (size g.ratio))
+pub only-valuation : (g : FormGrid) (given : ℕ → Bool) → IsOnlyBorderValuation g given (made g given (tile_count g.ratio))
 only-valuation g given =
-    let is : IsBorderValuation g given (made g given (size g.ratio)) =
-        record { all = length-made g given (size g.ratio); each = λ t side h. made-each g given (size g.ratio) t side h } in
+    let is : IsBorderValuation g given (made g given (tile_count g.ratio)) =
+    record { all = length-made g given (tile_count g.ratio); each = λ t side h. made-each g given (tile_count g.ratio) t side h } in
     record {
-        is = is;
-        only = λ others o. ext_get_or false others (made g given (size g.ratio)) (o.all ∙ sym is.all)
-            (λ i h. valuations-agree g given others (made g given (size g.ratio)) o is (size g.ratio) (omega arith) i (omega (arith, o.all)))
+      is = is;
+      only = λ others o. ext_get_or false others (made g given (tile_count g.ratio)) (o.all ∙ sym is.all)
+          (λ i h. valuations-agree g given others (made g given (tile_count g.ratio)) o is (tile_count g.ratio) (omega arith) i (omega (arith, o.all)));
     }

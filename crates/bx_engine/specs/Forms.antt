@@ -1,6 +1,6 @@
 -- What a form means: the sides that it uses, the kind of node that it holds, and what it computes,
 -- as the one table has it. A tile holds a form, as its number, or is empty.
-use Rattle.std.specs.Prelude.{◌≡◌, ℕ, Bool, true, false, not, List, [], ◌∷◌, ◌++◌, if◌then◌else◌, Option, Some, None, map}
+use Rattle.std.specs.Prelude.{ℕ, Bool, false, not, List, [], ◌∷◌, Option, Some, None, map}
 use Rattle.std.specs.List.{slice_get}
 use Rattle.bx_logic.specs.Op.{conjunction, disjunction, parity, first_value}
 use Rattle.bx_engine.specs.declared.forms.Kind.{Kind}

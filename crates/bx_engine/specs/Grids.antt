@@ -1,5 +1,5 @@
 -- Form grids: when one is sound, what the values of its borders are, and when it computes a module.
-use Rattle.std.specs.Prelude.{◌≡◌, ◌≢◌, ◌==◌, ℕ, zero, suc, ◌+◌, ◌*◌, ◌<◌, Bool, true, false, if◌then◌else◌, IsTrue, List, [], ◌∷◌, ◌++◌, map, length, slice_index_or, Option, Some, None, IsSome, ◌⊎◌, ⊤, Contains}
+use Rattle.std.specs.Prelude.{◌≡◌, ◌≢◌, ◌==◌, ℕ, ◌+◌, ◌*◌, ◌<◌, Bool, false, if◌then◌else◌, IsTrue, List, [], ◌∷◌, ◌++◌, map, length, slice_index_or, Option, Some, None, IsSome, ◌⊎◌, ⊤, Contains}
 use Rattle.std.specs.List.{AllByRecursion}
 use Rattle.bx_logic.specs.Op.{first_value}
 use Rattle.bx_verilog.specs.Module.{Text, Equation, Module, Assignment, Gives}
@@ -10,7 +10,7 @@ use Rattle.bx_engine.specs.declared.forms.Side.{Side}
 use Rattle.bx_engine.specs.declared.forms.Side.TheVariants.{Left, Right}
 use Rattle.bx_engine.specs.declared.forms.Shape.{Shape}
 use Rattle.bx_engine.specs.Forms.{shape_of, shape_takes, shape_sends, shape_holds, opposite, function_value}
-use Rattle.bx_engine.specs.Tiles.{size, y_of, below, above, border, entering}
+use Rattle.bx_engine.specs.Tiles.{tile_count, y_of, below, above, border, entering}
 
 -- for each tile the number of its form, or none where it is empty
 pub record FormGrid : Type 0 where
@@ -19,7 +19,7 @@ pub record FormGrid : Type 0 where
 
 -- there are w * h tiles, and each form is one of the 28
 pub record IsFormGrid (g : FormGrid) : Type 0 where
-  pub whole : length g.tiles ≡ size g.ratio
+  pub whole : length g.tiles ≡ tile_count g.ratio
   pub forms : AllByRecursion (λ tile. (form : ℕ) → tile ≡ Some form → form < 28) g.tiles
 
 abbrev pub shape_in : Option ℕ → Option Shape
@@ -51,15 +51,15 @@ IsEmpty g t = slice_index_or g.tiles t None ≡ None
 
 pub record IsSound (g : FormGrid) : Type 0 where
   -- a tile takes on exactly those upper sides on which the tile above goes out
-  pub meets : (t : ℕ) (side : Side) → t < size g.ratio → takes g t side ≡ sends_from g (above g.ratio t side) (opposite side)
+  pub meets : (t : ℕ) (side : Side) → t < tile_count g.ratio → takes g t side ≡ sends_from g (above g.ratio t side) (opposite side)
   -- nothing leads off the grid
-  pub stays : (t : ℕ) (side : Side) → t < size g.ratio → IsTrue (sends g t side) → IsSome (below g.ratio t side)
+  pub stays : (t : ℕ) (side : Side) → t < tile_count g.ratio → IsTrue (sends g t side) → IsSome (below g.ratio t side)
   -- input forms stand in the first row only, and output forms in the last
-  pub inputs : (t : ℕ) → t < size g.ratio → Holds g t Input → y_of g.ratio t ≡ 0
-  pub outputs : (t : ℕ) → t < size g.ratio → Holds g t Output → y_of g.ratio t + 1 ≡ g.ratio.h
+  pub inputs : (t : ℕ) → t < tile_count g.ratio → Holds g t Input → y_of g.ratio t ≡ 0
+  pub outputs : (t : ℕ) → t < tile_count g.ratio → Holds g t Output → y_of g.ratio t + 1 ≡ g.ratio.h
   -- nothing else stands there
-  pub first : (t : ℕ) → t < size g.ratio → y_of g.ratio t ≡ 0 → IsEmpty g t ⊎ Holds g t Input
-  pub last : (t : ℕ) → t < size g.ratio → y_of g.ratio t + 1 ≡ g.ratio.h → IsEmpty g t ⊎ Holds g t Output
+  pub first : (t : ℕ) → t < tile_count g.ratio → y_of g.ratio t ≡ 0 → IsEmpty g t ⊎ Holds g t Input
+  pub last : (t : ℕ) → t < tile_count g.ratio → y_of g.ratio t + 1 ≡ g.ratio.h → IsEmpty g t ⊎ Holds g t Output
 
 -- the value of a border, false where there is none
 abbrev pub value_of : List Bool → Option ℕ → Bool
@@ -82,8 +82,8 @@ sent g given borders t side = if sends g t side then shape_value (shape_at g t) 
 
 -- the values of all borders, by the equations of the tiles: each lower side has what goes out there. An input tile has its given value
 pub record IsBorderValuation (g : FormGrid) (given : ℕ → Bool) (borders : List Bool) : Type 0 where
-  pub all : length borders ≡ 2 * size g.ratio
-  pub each : (t : ℕ) (side : Side) → t < size g.ratio → slice_index_or borders (border t side) false ≡ sent g given borders t side
+  pub all : length borders ≡ 2 * tile_count g.ratio
+  pub each : (t : ℕ) (side : Side) → t < tile_count g.ratio → slice_index_or borders (border t side) false ≡ sent g given borders t side
 
 -- there is one valuation, and no other
 pub record IsOnlyBorderValuation (g : FormGrid) (given : ℕ → Bool) (borders : List Bool) : Type 0 where
@@ -121,12 +121,12 @@ pub record ArePins (g : FormGrid) (m : Module) (pins : Pins) : Type 0 where
   pub known : (input : Text) → Contains (pin_names pins.inputs) input → Contains m.inputs input × IsUsed m input
   pub once : AreDifferent (pin_names pins.inputs)
   pub outputs : pin_names pins.outputs ≡ m.outputs
-  pub first : AllByRecursion (λ t. (t < size g.ratio) × (y_of g.ratio t ≡ 0) × Holds g t Input) (pin_tiles pins.inputs)
-  pub last : AllByRecursion (λ t. (t < size g.ratio) × (y_of g.ratio t + 1 ≡ g.ratio.h) × Holds g t Output) (pin_tiles pins.outputs)
+  pub first : AllByRecursion (λ t. (t < tile_count g.ratio) × (y_of g.ratio t ≡ 0) × Holds g t Input) (pin_tiles pins.inputs)
+  pub last : AllByRecursion (λ t. (t < tile_count g.ratio) × (y_of g.ratio t + 1 ≡ g.ratio.h) × Holds g t Output) (pin_tiles pins.outputs)
   pub apart : AreDifferent (pin_tiles pins.inputs ++ pin_tiles pins.outputs)
   -- no other tile holds an input or an output form
-  pub no_more_inputs : (t : ℕ) → t < size g.ratio → Holds g t Input → Contains (pin_tiles pins.inputs) t
-  pub no_more_outputs : (t : ℕ) → t < size g.ratio → Holds g t Output → Contains (pin_tiles pins.outputs) t
+  pub no_more_inputs : (t : ℕ) → t < tile_count g.ratio → Holds g t Input → Contains (pin_tiles pins.inputs) t
+  pub no_more_outputs : (t : ℕ) → t < tile_count g.ratio → Holds g t Output → Contains (pin_tiles pins.outputs) t
 
 -- the value of the input whose pin is this tile
 abbrev pub given_at : List Pin → Assignment → ℕ → Bool

@@ -1,14 +1,14 @@
 -- The tiles of a grid and the borders between them. Tile (x, y) has the number y * w + x; an odd
 -- row is shifted right by half a tile, so each tile has two tiles below it and two above.
-use Rattle.std.specs.Prelude.{◌≡◌, ◌==◌, ℕ, zero, suc, ◌+◌, ◌*◌, ◌/◌, ◌%◌, Bool, true, false, ◌&&◌, nat_lt, if◌then◌else◌, Option, Some, None, option_map}
+use Rattle.std.specs.Prelude.{◌==◌, ℕ, zero, suc, ◌+◌, ◌*◌, ◌/◌, ◌%◌, Bool, true, false, ◌&&◌, nat_lt, if◌then◌else◌, Option, Some, None, option_map}
 use Rattle.bx_engine.specs.declared.grid.Ratio.{Ratio}
 use Rattle.bx_engine.specs.declared.forms.Side.{Side}
 use Rattle.bx_engine.specs.declared.forms.Side.TheVariants.{Left, Right}
 use Rattle.bx_engine.specs.Forms.{opposite}
 
 -- how many tiles there are
-abbrev pub size : Ratio → ℕ
-size r = r.w * r.h
+abbrev pub tile_count : Ratio → ℕ
+tile_count r = r.w * r.h
 
 -- the column and the row of a tile
 abbrev pub x_of : Ratio → ℕ → ℕ

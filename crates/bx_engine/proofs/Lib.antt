@@ -1,0 +1,5 @@
+pub mod Table
+pub mod Valuations
+pub mod Chains
+pub mod Columns
+pub mod Layouts

@@ -1,0 +1,4 @@
+pub mod Forms
+pub mod Tiles
+pub mod Grids
+pub mod Columns

@@ -1,0 +1,3 @@
+pub mod Ascending
+pub mod ChainNetworks
+pub mod Orders

@@ -1,0 +1,4 @@
+pub mod ChainNetworks
+pub mod Counts
+pub mod Networks
+pub mod Orders

@@ -180,3 +180,7 @@ AllPairs-from_ascends R (x ∷ xs) a zero zero d l m = absurd (omega arith)
 AllPairs-from_ascends R (x ∷ xs) a zero (suc j) d l m = member_of_AllByRecursion (R x) (get_or xs j d) xs a.0 (Member-get_or xs j d (omega arith))
 AllPairs-from_ascends R (x ∷ xs) a (suc i) zero d l m = absurd (omega arith)
 AllPairs-from_ascends R (x ∷ xs) a (suc i) (suc j) d l m = AllPairs-from_ascends R xs a.1 i j d (omega arith) (omega arith)
+
+pub Ascends-after : {X : Type 0} (R : X → X → Type 0) (x : X) (before after : List X) → Ascends R (before ++ x ∷ after) → AllByRecursion (R x) after
+Ascends-after R x [] after a = a.0
+Ascends-after R x (y ∷ ys) after a = Ascends-after R x ys after a.1

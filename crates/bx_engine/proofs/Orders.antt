@@ -1,11 +1,11 @@
 -- The order of ratios holds each ratio within the limits and no other, and ascends.
-use Rattle.std.proofs.Common.{◌≡◌, ℕ, zero, suc, ◌+◌, ◌*◌, ◌/◌, ◌%◌, ◌<◌, ◌≤◌, ◌↔◌, ◌==◌, ◌&&◌, nat_le, Bool, true, false, List, map, filter, Contains, AllPairs, inl, inr, refl, sym, ap, ◌∙◌, subst, arith, eqb-true, eq-eqb, leb-true, le-leb}
-use Rattle.std.specs.List.{range_with_len}
+use Rattle.std.proofs.Common.{◌≡◌, ℕ, zero, suc, ◌+◌, ◌*◌, ◌/◌, ◌%◌, ◌<◌, ◌≤◌, ◌↔◌, ◌==◌, ◌&&◌, nat_le, Bool, true, false, List, ◌∷◌, ◌++◌, ◌⊎◌, map, filter, Contains, AllPairs, inl, inr, refl, sym, ap, ◌∙◌, subst, arith, eqb-true, eq-eqb, leb-true, le-leb}
+use Rattle.std.specs.List.{AllByRecursion, range_with_len}
 use Rattle.std.proofs.lemmas.Nat.{div-mul-add, mod-mul-add}
 use Rattle.bx_engine.specs.declared.grid.Ratio.{Ratio}
 use Rattle.bx_engine.specs.declared.grid.Limits.{Limits}
-use Rattle.bx_engine.specs.Orders.{IsWithin, Precedes, of_area, order}
-use Rattle.bx_engine.proofs.Ascending.{Member, Contains-from_member, Member-from_contains, Member-filter, Member-filter_cases, Member-map, Member-map_cases, Member-flat_map, Member-flat_map_cases, Member-range, Member-range_bounds, Ascends, Ascends-filter, Ascends-map, Ascends-flat_map, Ascends-range, AllPairs-from_ascends}
+use Rattle.bx_engine.specs.Orders.{IsWithin, Precedes, of_area, order, Earlier}
+use Rattle.bx_engine.proofs.Ascending.{Member, Member-append_left, Member-append_cases, member_of_AllByRecursion, Ascends-before, Ascends-after, Contains-from_member, Member-from_contains, Member-filter, Member-filter_cases, Member-map, Member-map_cases, Member-flat_map, Member-flat_map_cases, Member-range, Member-range_bounds, Ascends, Ascends-filter, Ascends-map, Ascends-flat_map, Ascends-range, AllPairs-from_ascends}
 
 both : (p q : Bool) → (p && q) ≡ true → (p ≡ true) × (q ≡ true)
 both true true h = (refl, refl)
@@ -122,3 +122,27 @@ order_is_exact limits r =
 
 pub order_is_ascending : (limits : Limits) → AllPairs Precedes (order limits)
 order_is_ascending limits = AllPairs-from_ascends Precedes (order limits) (order_ascends limits)
+
+precedes_once : (a b : Ratio) → Precedes a b → Precedes b a → ⊥
+precedes_once a b (inl l) (inl m) = omega arith
+precedes_once a b (inl l) (inr m) = let e = m.0 in omega arith
+precedes_once a b (inr l) (inl m) = let e = l.0 in omega arith
+precedes_once a b (inr l) (inr m) = let e = l.1 in let f = m.1 in omega arith
+
+-- what precedes a ratio in the order stands before it there
+pub earlier_is_before : (limits : Limits) (ratio : Ratio) (before : List Ratio) → Earlier limits ratio before → (r : Ratio) → Contains before r ↔ (IsWithin limits r × Precedes r ratio)
+earlier_is_before limits ratio before e r =
+    ((λ c. (order_says limits r (in_order (Member-append_left r before (ratio ∷ e.after) (Member-from_contains r before c))), member_of_AllByRecursion (λ (q : Ratio). Precedes q ratio) r before earlier (Member-from_contains r before c))), (λ (i, p). Contains-from_member r before (stands_before p (Member-append_cases r before (ratio ∷ e.after) (subst (λ (xs : List Ratio). Member r xs) e.splits (order_has limits r i))))))
+  where
+    in_order : Member r (before ++ ratio ∷ e.after) → Member r (order limits)
+    in_order m = subst (λ (xs : List Ratio). Member r xs) (sym e.splits) m
+    ascends : Ascends Precedes (before ++ ratio ∷ e.after)
+    ascends = subst (Ascends Precedes) e.splits (order_ascends limits)
+    earlier : AllByRecursion (λ (q : Ratio). Precedes q ratio) before
+    earlier = Ascends-before Precedes ratio before e.after ascends
+    later : AllByRecursion (Precedes ratio) e.after
+    later = Ascends-after Precedes ratio before e.after ascends
+    stands_before : Precedes r ratio → Member r before ⊎ Member r (ratio ∷ e.after) → Member r before
+    stands_before p (inl m) = m
+    stands_before p (inr (inl same)) = absurd (precedes_once r ratio p (subst (λ (q : Ratio). Precedes ratio q) same (subst (λ (q : Ratio). Precedes q ratio) (sym same) p)))
+    stands_before p (inr (inr m)) = absurd (precedes_once r ratio p (member_of_AllByRecursion (Precedes ratio) r e.after later m))

@@ -1,3 +1,4 @@
 pub mod Ascending
 pub mod ChainNetworks
+pub mod Networks
 pub mod Orders

@@ -136,12 +136,16 @@ earlier_is_before limits ratio before e r =
   where
     in_order : Member r (before ++ ratio ∷ e.after) → Member r (order limits)
     in_order m = subst (λ (xs : List Ratio). Member r xs) (sym e.splits) m
+
     ascends : Ascends Precedes (before ++ ratio ∷ e.after)
     ascends = subst (Ascends Precedes) e.splits (order_ascends limits)
+
     earlier : AllByRecursion (λ (q : Ratio). Precedes q ratio) before
     earlier = Ascends-before Precedes ratio before e.after ascends
+
     later : AllByRecursion (Precedes ratio) e.after
     later = Ascends-after Precedes ratio before e.after ascends
+
     stands_before : Precedes r ratio → Member r before ⊎ Member r (ratio ∷ e.after) → Member r before
     stands_before p (inl m) = m
     stands_before p (inr (inl same)) = absurd (precedes_once r ratio p (subst (λ (q : Ratio). Precedes ratio q) same (subst (λ (q : Ratio). Precedes q ratio) (sym same) p)))

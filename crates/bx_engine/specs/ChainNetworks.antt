@@ -1,6 +1,6 @@
 -- The mapped network of a chain: its input, a node for each `not` in order, and its output, each
 -- joined to the next. A `buf` has no node.
-use Rattle.std.specs.Prelude.{ℕ, ◌+◌, [], ◌∷◌, ◌++◌, map, replicate}
+use Rattle.std.specs.Prelude.{ℕ, zero, suc, Bool, not, ◌+◌, [], ◌∷◌, ◌++◌, map, replicate}
 use Rattle.std.specs.List.{range_with_len}
 use Rattle.bx_engine.specs.declared.forms.Kind.TheVariants.{Input, Output, Not}
 use Rattle.bx_engine.specs.Networks.{Node, Edge, Network}
@@ -24,3 +24,8 @@ chain_network inversions = record {
   nodes = input_node ∷ (replicate inversions not_node ++ output_node ∷ []);
   edges = map link (range_with_len 0 (inversions + 1));
 }
+
+-- a value after so many inversions
+abbrev pub inverted : ℕ → Bool → Bool
+inverted zero b = b
+inverted (suc n) b = not (inverted n b)

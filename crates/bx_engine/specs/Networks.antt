@@ -1,6 +1,7 @@
 -- A mapped network: nodes with a kind, and edges from a slot of one node to an operand of another.
-use Rattle.std.specs.Prelude.{◌≡◌, ℕ, zero, suc, ◌<◌, ◌≤◌, ◌==◌, ◌&&◌, nat_lt, ◌⊎◌, if◌then◌else◌, List, length, slice_get, count_by, Some, Contains, AllPairs}
+use Rattle.std.specs.Prelude.{◌≡◌, ℕ, zero, suc, ◌<◌, ◌≤◌, ◌==◌, ◌&&◌, nat_lt, ◌⊎◌, if◌then◌else◌, List, length, slice_get, count_by, Some, Contains, AllPairs, Bool, not, ◌++◌, map, filter}
 use Rattle.std.specs.List.{AllByRecursion}
+use Rattle.bx_logic.specs.Op.{conjunction, disjunction, parity, first_value}
 use Rattle.bx_engine.specs.declared.forms.Kind.{Kind}
 use Rattle.bx_engine.specs.declared.forms.Kind.TheVariants.{Input, Output, Not, Fan, And, Or, Nand, Nor, Xor, Xnor}
 
@@ -61,6 +62,29 @@ pub record IsNetwork (N : Network) : Type 0 where
   pub leaves : (v : ℕ) (kind : Kind) → HasKind N v kind → (slot : ℕ) → leaving N.edges v slot ≡ (if nat_lt slot (slots kind) then 1 else 0)
   pub enters : (v : ℕ) (kind : Kind) → HasKind N v kind → (operand : ℕ) → entering N.edges v operand ≡ (if nat_lt operand (operands kind) then 1 else 0)
   pub ascending : AllPairs IsBefore N.edges
+
+-- what a node of this kind gives, for the value of its port and the values that it reads
+abbrev pub kind_value : Kind → Bool → List Bool → Bool
+kind_value Input given reads = given
+kind_value Output given reads = first_value reads
+kind_value Not given reads = not (first_value reads)
+kind_value Fan given reads = first_value reads
+kind_value And given reads = conjunction reads
+kind_value Or given reads = disjunction reads
+kind_value Nand given reads = not (conjunction reads)
+kind_value Nor given reads = not (disjunction reads)
+kind_value Xor given reads = parity reads
+kind_value Xnor given reads = not (parity reads)
+
+-- the values of the edges that enter this node by this operand: an edge has its source's value
+abbrev pub read_by : List Edge → (ℕ → Bool) → ℕ → ℕ → List Bool
+read_by edges values v operand = map (λ e. values e.source) (filter (λ e. (e.target == v) && (e.operand == operand)) edges)
+
+-- where the ports have these given values, each node has the value that its kind gives of what it reads
+abbrev pub IsValuation : Network → (ℕ → Bool) → (ℕ → Bool) → Type 0
+IsValuation N given values =
+    (v : ℕ) (node : Node) → slice_get N.nodes v ≡ Some node
+    → values v ≡ kind_value node.kind (given node.port) (read_by N.edges values v 0 ++ read_by N.edges values v 1)
 
 -- an edge leads from u to v
 abbrev pub HasEdge : List Edge → ℕ → ℕ → Type 0

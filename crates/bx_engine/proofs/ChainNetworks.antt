@@ -9,11 +9,11 @@ use Rattle.bx_engine.specs.declared.grid.Limits.{Limits}
 use Rattle.bx_engine.specs.declared.grid.TheConstants.{DEFAULT_LIMITS}
 use Rattle.bx_logic.specs.Op.{first_value}
 use Rattle.bx_engine.specs.Networks.{Node, Edge, IsNetwork, IsValuation, kind_value, read_by, IsBefore, HasKind, HasEdge, IsPath, IsDown, IsUp, leaving, entering, slots, operands}
-use Rattle.bx_engine.specs.Orders.{IsWithin, Precedes, order}
+use Rattle.bx_engine.specs.Orders.{IsWithin, Precedes}
 use Rattle.bx_engine.specs.Counts.{Late, EachEarlierIsLate}
 use Rattle.bx_engine.specs.ChainNetworks.{inverted, chain_network, link, input_node, not_node, output_node}
-use Rattle.bx_engine.proofs.Orders.{order_says, order_has, order_ascends}
-use Rattle.bx_engine.proofs.Ascending.{at_or_above, Member, Contains-from_member, Member-from_contains, Member-map, Member-map_cases, Member-range, Member-range_bounds, Member-append_left, Member-splits, AllByRecursion-from_member, member_of_AllByRecursion, Ascends, Ascends-before, Ascends-map, Ascends-range, AllPairs-from_ascends}
+use Rattle.bx_engine.proofs.Orders.{order_splits, earlier_says}
+use Rattle.bx_engine.proofs.Ascending.{at_or_above, Member, Contains-from_member, Member-from_contains, Member-map, Member-map_cases, Member-range, Member-range_bounds, AllByRecursion-from_member, Ascends-map, Ascends-range, AllPairs-from_ascends}
 
 abbrev links : ℕ → List Edge
 links n = map link (range_with_len 0 n)
@@ -165,22 +165,16 @@ height_le_area (suc w) h a = omega arith
 abbrev column : ℕ → Ratio
 column k = record { w = 1; h = k + 2 }
 
-earlier_is_short : (limits : Limits) (k : ℕ) (r : Ratio) → IsWithin limits r → Precedes r (column k) → r.h < k + 2
-earlier_is_short limits k r i (inl less) = let a = height_le_area r.w r.h i.wide in omega arith
-earlier_is_short limits k r i (inr (same, narrow)) = let a = i.wide in absurd (omega arith)
+earlier_is_short : (limits : Limits) (k : ℕ) (r : Ratio) → IsWithin limits r × Precedes r (column k) → r.h < k + 2
+earlier_is_short limits k r (i, inl less) = let a = height_le_area r.w r.h i.wide in omega arith
+earlier_is_short limits k r (i, inr (same, narrow)) = let a = i.wide in absurd (omega arith)
 
 pub each_earlier_is_late : (limits : Limits) (k : ℕ) → IsWithin limits (column k) → EachEarlierIsLate limits (chain_network k) (column k)
 each_earlier_is_late limits k i =
-    let (before, after, e) = Member-splits (column k) (order limits) (order_has limits (column k) i) in
-    let ascends : Ascends Precedes (before ++ column k ∷ after) = subst (Ascends Precedes) e (order_ascends limits) in
-    let precede = Ascends-before Precedes (column k) before after ascends in
-    let inside : (r : Ratio) → Member r before → IsWithin limits r =
-    λ r m. order_says limits r (subst (λ (xs : List Ratio). Member r xs) (sym e) (Member-append_left r before (column k ∷ after) m)) in
-    record {
-      before = before;
-      earlier = record { after = after; splits = e };
-      late = AllByRecursion-from_member (λ (r : Ratio). (v : ℕ) × Late (chain_network k) r v) before (λ r m. (0, late_has k 0 r (omega arith) (earlier_is_short limits k r (inside r m) (member_of_AllByRecursion (λ (q : Ratio). Precedes q (column k)) r before precede m))));
-    }
+    let (before, earlier) = order_splits limits (column k) i in
+    let late : (r : Ratio) → Member r before → (v : ℕ) × Late (chain_network k) r v =
+    λ r m. (0, late_has k 0 r (omega arith) (earlier_is_short limits k r (earlier_says limits (column k) before earlier r m))) in
+    record { before = before; earlier = earlier; late = AllByRecursion-from_member (λ r. (v : ℕ) × Late (chain_network k) r v) before late }
 
 pub each_earlier_is_late_by_default : (k : ℕ) → k ≤ 94 → EachEarlierIsLate DEFAULT_LIMITS (chain_network k) (column k)
 each_earlier_is_late_by_default k h = each_earlier_is_late DEFAULT_LIMITS k (record {

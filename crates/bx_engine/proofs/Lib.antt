@@ -3,3 +3,7 @@ pub mod Valuations
 pub mod Chains
 pub mod Columns
 pub mod Layouts
+pub mod Ascending
+pub mod ChainNetworks
+pub mod Networks
+pub mod Orders

@@ -1,0 +1,57 @@
+//! What holds of mapped networks, and of the network of a chain. Each law is the clause of a function
+//! that does nothing; how a network is found from a module is left to others.
+
+ghost use Rattle.std.specs.Prelude.{◌≡◌, ℕ, ◌+◌, ◌<◌, ◌≤◌, ◌↔◌, min, Bool, List, [], ◌∷◌};
+ghost use Rattle.bx_engine.specs.declared.grid.Ratio.{Ratio};
+ghost use Rattle.bx_engine.specs.declared.grid.Limits.{Limits};
+ghost use Rattle.bx_engine.specs.Networks.{Network, Edge, IsNetwork, IsValuation, IsDown, IsUp};
+ghost use Rattle.bx_engine.specs.ChainNetworks.{chain_network, link, input_node, not_node, output_node, inverted};
+ghost use Rattle.bx_engine.specs.Orders.{IsWithin};
+ghost use Rattle.bx_engine.specs.Counts.{Late, EachEarlierIsLate};
+
+use crate::grid::DEFAULT_LIMITS;
+
+/// The longest paths to a node have one length, and so have those from it.
+pub fn longest_paths_have_one_length()
+    ensures down { (N : Network) (v d e : ℕ) → IsDown N v d → IsDown N v e → d ≡ e }
+    ensures up { (N : Network) (v d e : ℕ) → IsUp N v d → IsUp N v e → d ≡ e }
+{}
+
+/// What is called the network of a chain is a mapped network.
+pub fn a_chain_has_a_network()
+    ensures { (inversions : ℕ) → IsNetwork (chain_network inversions) }
+{}
+
+/// The network of one `not` has three nodes and two edges. Without the second edge, with both in the
+/// other order, or with the second by a slot that `not` doesn't have, it is no mapped network.
+pub fn the_network_of_one_inversion()
+    ensures nodes { (chain_network 1).nodes ≡ input_node ∷ not_node ∷ output_node ∷ [] }
+    ensures edges { (chain_network 1).edges ≡ (record { source = 0; slot = 0; target = 1; operand = 0 }) ∷ (record { source = 1; slot = 0; target = 2; operand = 0 }) ∷ [] }
+    ensures missing { ¬ IsNetwork (record { nodes = (chain_network 1).nodes; edges = link 0 ∷ [] }) }
+    ensures turned { ¬ IsNetwork (record { nodes = (chain_network 1).nodes; edges = link 1 ∷ link 0 ∷ [] }) }
+    ensures slot { ¬ IsNetwork (record { nodes = (chain_network 1).nodes; edges = link 0 ∷ (record (link 1) { slot = 1 }) ∷ [] }) }
+{}
+
+/// The network of a chain has one valuation: each node but the output, which is the last, has the
+/// input's value inverted as many times as there are `not` up to it.
+pub fn the_network_of_a_chain_inverts()
+    ensures { (inversions : ℕ) (given values : ℕ → Bool) → IsValuation (chain_network inversions) given values ↔ ((v : ℕ) → v < inversions + 2 → values v ≡ inverted (min v inversions) (given 0)) }
+{}
+
+/// A node of a chain's network refutes the ratios that have fewer rows than the network has nodes.
+pub fn a_chain_is_late_where_rows_are_few()
+    ensures { (inversions v : ℕ) (ratio : Ratio) → Late (chain_network inversions) ratio v ↔ ((v < inversions + 2) × (ratio.h < inversions + 2)) }
+{}
+
+/// One `not` is refuted on two rows by its input, and on three rows by no node.
+pub fn one_inversion_needs_three_rows()
+    ensures two { (width : ℕ) → Late (chain_network 1) (record { w = width; h = 2 }) 0 }
+    ensures three { (width v : ℕ) → ¬ Late (chain_network 1) (record { w = width; h = 3 }) v }
+{}
+
+/// A column of one row for each node of a chain's network comes first of what counting leaves: it
+/// refutes each ratio before. Within the default limits there is room for 94 inversions.
+pub fn the_first_fit_of_a_chain_is_a_column()
+    ensures within { (limits : Limits) (inversions : ℕ) → IsWithin limits (record { w = 1; h = inversions + 2 }) → EachEarlierIsLate limits (chain_network inversions) (record { w = 1; h = inversions + 2 }) }
+    ensures by_default { (inversions : ℕ) → inversions ≤ 94 → EachEarlierIsLate DEFAULT_LIMITS (chain_network inversions) (record { w = 1; h = inversions + 2 }) }
+{}

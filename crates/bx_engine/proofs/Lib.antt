@@ -7,3 +7,4 @@ pub mod Ascending
 pub mod ChainNetworks
 pub mod Networks
 pub mod Orders
+pub mod Saying

@@ -6,3 +6,7 @@ pub mod ChainNetworks
 pub mod Counts
 pub mod Networks
 pub mod Orders
+pub mod Statuses
+pub mod Texts
+pub mod Words
+pub mod Says

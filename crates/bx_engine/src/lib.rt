@@ -5,3 +5,7 @@ pub mod column;
 pub mod forms;
 pub mod grid;
 pub mod laws;
+mod say;
+mod status;
+
+pub use status::{InputFault, Status, Which, WordFault};

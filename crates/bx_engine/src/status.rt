@@ -1,0 +1,60 @@
+//! How a run ends: each status with what it names, and the exit status of the program for it. When
+//! each comes is said by the clauses of `run`; what is said beside it is the texts' concern.
+ghost use Rattle.std.specs.Prelude.{◌≡◌};
+
+use crate::grid::Ratio;
+
+/// How a run ended.
+#[derive(Debug, PartialEq, Eq, Drop)]
+pub enum Status {
+    /// A layout was found, of this ratio, and the report was said.
+    Found(Ratio),
+    /// The input was refused, and the refusal was said.
+    Refused(InputFault),
+    /// A file could not be read. Nothing was said.
+    ReadFault(Which),
+    /// Something could not be written or said. A front of it may have been.
+    WriteFault(Which),
+    /// Memory was refused. Nothing was said.
+    NoMemory,
+    /// The words are no command, and the refusal was said.
+    Words(WordFault),
+}
+
+/// What is wrong with an input.
+#[derive(Clone, Copy, Debug, PartialEq, Eq)]
+pub enum InputFault {
+    /// The module isn't of a form that is laid out yet.
+    NotBuilt,
+}
+
+/// What is wrong with the words.
+#[derive(Clone, Copy, Debug, PartialEq, Eq)]
+pub enum WordFault {
+    /// They don't begin with a command, or it has other words than it takes.
+    Command,
+}
+
+/// A file or output that a fault is about.
+#[derive(Clone, Copy, Debug, PartialEq, Eq)]
+pub enum Which {
+    NetFile,
+    Output,
+}
+
+impl Status {
+    ghost use Rattle.bx_engine.specs.Statuses.{exit_status};
+
+    /// The exit status of the program: 0 found, 1 refused, 4 read or write fault, 5 no memory, 6 words.
+    pub fn code(&self) -> u8
+        ensures { result ≡ exit_status self.now }
+    {
+        match self {
+            Status::Found(_) => 0,
+            Status::Refused(_) => 1,
+            Status::ReadFault(_) | Status::WriteFault(_) => 4,
+            Status::NoMemory => 5,
+            Status::Words(_) => 6,
+        }
+    }
+}

@@ -11,6 +11,7 @@ use Rattle.bx_engine.specs.Networks.{Node, Edge, IsNetwork, IsValuation, kind_va
 use Rattle.bx_engine.specs.Orders.{IsWithin, Precedes}
 use Rattle.bx_engine.specs.Counts.{Late, EachEarlierIsLate}
 use Rattle.bx_engine.specs.ChainNetworks.{inverted, chain_network, link, input_node, not_node, output_node}
+use Rattle.bx_engine.proofs.Networks.{first_false, second_false}
 use Rattle.bx_engine.proofs.Orders.{order_splits, earlier_says}
 use Rattle.bx_engine.proofs.Ascending.{at_or_above, Ascends, Member, Contains-from_member, Member-from_contains, Member-map, Member-map_cases, Member-range, Member-range_bounds, AllByRecursion-from_member, Ascends-map, Ascends-range, AllPairs-from_ascends}
 
@@ -202,13 +203,6 @@ filter_one q a (suc n) v low high here other =
 
 both_true : (p q : Bool) → p ≡ true → q ≡ true → (p && q) ≡ true
 both_true p q e f = rw (e, f) refl
-
-first_false : (p q : Bool) → p ≡ false → (p && q) ≡ false
-first_false p q e = rw e refl
-
-second_false : (p q : Bool) → q ≡ false → (p && q) ≡ false
-second_false true q e = e
-second_false false q e = refl
 
 leaving_first : (n v : ℕ) → v < n → leaving (links n) v 0 ≡ link v ∷ []
 leaving_first n v h =

@@ -1,4 +1,5 @@
 pub mod Ascending
+pub mod BranchingNetworks
 pub mod ChainNetworks
 pub mod Networks
 pub mod Orders

@@ -1,3 +1,4 @@
+pub mod BranchingNetworks
 pub mod ChainNetworks
 pub mod Counts
 pub mod Networks

@@ -1,13 +1,15 @@
-// A library with one function.
+//! Files, output and gates, as bestagon sees them. Everything above works over the trait `Desk`, so
+//! it is proved over any desk; `StdDesk` is the one real one, and `MemDesk` the one for tests.
 #![tactic(auto)]
 
-ghost use Rattle.std.specs.Prelude.{◌≡◌};
-ghost use Rattle.bx_desk.specs.Echo.{echo_of};
+mod desk;
+mod gate;
+mod memory;
+mod piece;
+mod standard;
 
-// The `ensures` clause is the contract: what `echo` returns is `echo_of` of its argument, a definition
-// in `specs/Echo.antt`, which a caller's clause can cite too.
-pub fn echo(x: usize) -> usize
-    ensures { result ≡ echo_of x }
-{
-    x
-}
+pub use desk::{Desk, Failed, LoadFault};
+pub use gate::{Gate, OpenGate};
+pub use memory::MemDesk;
+pub use piece::Piece;
+pub use standard::StdDesk;

@@ -1,3 +1,8 @@
+pub mod Table
+pub mod Valuations
+pub mod Chains
+pub mod Columns
+pub mod Layouts
 pub mod Ascending
 pub mod BranchingNetworks
 pub mod ChainNetworks

@@ -1,5 +1,9 @@
 pub mod BranchingNetworks
 pub mod ChainNetworks
+pub mod Columns
 pub mod Counts
+pub mod Forms
+pub mod Grids
 pub mod Networks
 pub mod Orders
+pub mod Tiles

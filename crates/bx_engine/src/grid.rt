@@ -1,5 +1,10 @@
 //! Ratios of a hexagonal grid, and the limits within which they are searched. Rows run from the
 //! inputs down to the outputs, and a signal goes only from a row to the next.
+ghost use Rattle.std.specs.Prelude.{◌≡◌, ◌<◌, vec_len, slice_index_or};
+ghost use Rattle.bx_engine.specs.Tiles.{tile_count};
+
+use crate::forms::Form;
+use std::marker::Model;
 
 /// The sides of a grid: so many tiles in a row, and so many rows. Both are at least 1.
 #[derive(Clone, Copy, Debug, PartialEq, Eq)]
@@ -27,3 +32,47 @@ pub const DEFAULT_LIMITS: Limits = Limits {
     width: 144,
     height: 144,
 };
+
+/// A grid with a form, or nothing, on each tile. Contracts see it as the record of its ratio and the
+/// list of its tiles.
+#[derive(Debug, Drop)]
+pub struct FormGrid {
+    ratio: Ratio,
+    tiles: Vec<Option<Form>>,
+}
+
+impl Model for FormGrid {
+    ghost use Rattle.std.specs.Prelude.{◌≡◌, vec_len};
+    ghost use Rattle.bx_engine.specs.Tiles.{tile_count};
+    ghost use Rattle.bx_engine.specs.Grids.{FormGrid as Grid};
+
+    ghost Value = { Grid };
+
+    ghost view = { λ grid. record { ratio = grid.ratio; tiles = grid.tiles.items } };
+
+    ghost invariant = { λ grid. vec_len grid.tiles ≡ tile_count grid.ratio };
+}
+
+impl FormGrid {
+    /// The grid with these tiles, row by row. Takes no memory.
+    pub fn new(ratio: Ratio, tiles: Vec<Option<Form>>) -> FormGrid
+        requires { vec_len tiles ≡ tile_count ratio }
+        ensures { result ≡ record { ratio = ratio; tiles = tiles.items } }
+    {
+        FormGrid { ratio, tiles }
+    }
+
+    pub fn ratio(&self) -> Ratio
+        ensures { result ≡ self.now.ratio }
+    {
+        self.ratio
+    }
+
+    /// The form on a tile, or none where it is empty.
+    pub fn tile(&self, t: u32) -> Option<Form>
+        requires { t < tile_count self.now.ratio }
+        ensures { result ≡ slice_index_or self.now.tiles t None }
+    {
+        self.tiles[t as usize]
+    }
+}

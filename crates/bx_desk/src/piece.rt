@@ -1,0 +1,92 @@
+//! A piece gathers what is said, so that a desk is called once for each full buffer and not once for
+//! each word. It takes no memory, and it hands its bytes on in the order in which they were put.
+ghost use Rattle.std.specs.Prelude.{◌≡◌, ◌++◌, ◌+◌, ◌<◌, ◌%◌, [], length, OnOk, OnErr, decimal};
+ghost use Rattle.bx_desk.specs.Desk.{Rose, SayCounts};
+
+use crate::{Desk, Failed};
+
+/// How many bytes a piece holds before it hands them on.
+const CAPACITY: usize = 4096;
+
+/// A buffer of 4,096 bytes in front of a desk. After an error it is only to be dropped.
+#[derive(Drop)]
+pub struct Piece {
+    buffer: [u8; CAPACITY],
+    len: usize,
+    ghost room: { len < 4096 },
+}
+
+impl Piece {
+    ghost use Rattle.bx_desk.specs.Pieces.{pending, HandsOn};
+
+    /// An empty piece, whose bytes are to be said.
+    pub fn to_say() -> Self
+        ensures { pending result ≡ [] }
+    {
+        Piece {
+            buffer: [0; CAPACITY],
+            len: 0,
+        }
+    }
+
+    /// Puts the bytes behind those put before. A full buffer is handed on at once.
+    ///
+    /// # Errors
+    ///
+    /// `Failed` where the desk could not say all of a full buffer.
+    pub fn put<D: Desk>(&mut self, bytes: &[u8], desk: &mut D) -> Result<(), Failed>
+        ensures said { HandsOn result (D.said desk.old) (D.said desk.new) (pending self.old ++ bytes.now) (pending self.new) }
+        ensures whole_buffers { OnOk result (length (pending self.new) ≡ (length (pending self.old) + length bytes.now) % 4096) }
+        ensures failed { OnErr result (Rose (D.faults desk.old).say (D.faults desk.new).say) }
+        ensures counts { SayCounts (D.faults desk.old) (D.faults desk.new) }
+        ensures files_stay { D.files desk.new ≡ D.files desk.old }
+    {
+        let mut rest = bytes;
+        while rest.len() >= CAPACITY - self.len {
+            let (now, later) = rest.split_at(CAPACITY - self.len);
+            self.buffer[self.len..].copy_from_slice(now);
+            desk.say(&self.buffer)?;
+            self.len = 0;
+            rest = later;
+        }
+        let end = self.len + rest.len();
+        self.buffer[self.len..end].copy_from_slice(rest);
+        self.len = end;
+        Ok(())
+    }
+
+    /// Puts the digits of a number, without leading zeros.
+    ///
+    /// # Errors
+    ///
+    /// Those of `put`.
+    pub fn put_number<D: Desk>(&mut self, n: u64, desk: &mut D) -> Result<(), Failed>
+        ensures said { HandsOn result (D.said desk.old) (D.said desk.new) (pending self.old ++ decimal n) (pending self.new) }
+        ensures whole_buffers { OnOk result (length (pending self.new) ≡ (length (pending self.old) + length (decimal n)) % 4096) }
+        ensures failed { OnErr result (Rose (D.faults desk.old).say (D.faults desk.new).say) }
+        ensures counts { SayCounts (D.faults desk.old) (D.faults desk.new) }
+        ensures files_stay { D.files desk.new ≡ D.files desk.old }
+    {
+        let mut digits = itoa::Buffer::new();
+        self.put(digits.format(n).as_bytes(), desk)
+    }
+
+    /// Hands on what is pending, if anything is.
+    ///
+    /// # Errors
+    ///
+    /// `Failed` where the desk could not say all of it.
+    pub fn end<D: Desk>(&mut self, desk: &mut D) -> Result<(), Failed>
+        ensures said { HandsOn result (D.said desk.old) (D.said desk.new) (pending self.old) [] }
+        ensures empty { OnOk result (pending self.new ≡ []) }
+        ensures failed { OnErr result (Rose (D.faults desk.old).say (D.faults desk.new).say) }
+        ensures counts { SayCounts (D.faults desk.old) (D.faults desk.new) }
+        ensures files_stay { D.files desk.new ≡ D.files desk.old }
+    {
+        if self.len > 0 {
+            desk.say(&self.buffer[..self.len])?;
+            self.len = 0;
+        }
+        Ok(())
+    }
+}

@@ -1,19 +1,19 @@
 -- Paths, longest paths and counts of edges in the network of a chain.
-use Rattle.std.proofs.Common.{◌≡◌, ℕ, zero, suc, ◌+◌, ◌-◌, ◌*◌, ◌<◌, ◌≤◌, ◌≢◌, ◌↔◌, ◌==◌, ◌&&◌, nat_lt, if◌then◌else◌, Bool, true, false, not, min, ◌⊎◌, filter, List, [], ◌∷◌, ◌++◌, map, replicate, length, slice_get, count_by, Some, inl, inr, refl, sym, ap, ◌∙◌, subst, arith, eq-eqb, ne_eqb, lit≤, le-ltb}
+use Rattle.std.proofs.Common.{◌≡◌, ℕ, zero, suc, ◌+◌, ◌-◌, ◌*◌, ◌<◌, ◌≤◌, ◌≢◌, ◌↔◌, ◌==◌, ◌&&◌, nat_lt, Bool, true, false, not, min, ◌⊎◌, filter, List, [], ◌∷◌, ◌++◌, map, replicate, length, slice_get, Some, inl, inr, refl, sym, ap, ◌∙◌, subst, arith, eq-eqb, ne_eqb, lit≤, le-ltb}
 use Rattle.std.specs.List.{range_with_len}
-use Rattle.std.proofs.lemmas.List.Sums.{sum_by-cons}
 use Rattle.bx_engine.specs.declared.forms.Kind.{Kind}
 use Rattle.bx_engine.specs.declared.forms.Kind.TheVariants.{Input, Output}
 use Rattle.bx_engine.specs.declared.grid.Ratio.{Ratio}
 use Rattle.bx_engine.specs.declared.grid.Limits.{Limits}
 use Rattle.bx_engine.specs.declared.grid.TheConstants.{DEFAULT_LIMITS}
 use Rattle.bx_logic.specs.Op.{first_value}
-use Rattle.bx_engine.specs.Networks.{Node, Edge, IsNetwork, IsValuation, kind_value, read_by, IsBefore, HasKind, HasEdge, IsPath, IsDown, IsUp, leaving, entering, slots, operands}
+use Rattle.bx_engine.specs.Networks.{Node, Edge, IsNetwork, IsValuation, kind_value, one_if, reads, IsBefore, HasKind, HasEdge, IsPath, IsDown, IsUp, leaving, entering, slots, operands}
 use Rattle.bx_engine.specs.Orders.{IsWithin, Precedes}
 use Rattle.bx_engine.specs.Counts.{Late, EachEarlierIsLate}
 use Rattle.bx_engine.specs.ChainNetworks.{inverted, chain_network, link, input_node, not_node, output_node}
+use Rattle.bx_engine.proofs.Networks.{first_false, second_false}
 use Rattle.bx_engine.proofs.Orders.{order_splits, earlier_says}
-use Rattle.bx_engine.proofs.Ascending.{at_or_above, Member, Contains-from_member, Member-from_contains, Member-map, Member-map_cases, Member-range, Member-range_bounds, AllByRecursion-from_member, Ascends-map, Ascends-range, AllPairs-from_ascends}
+use Rattle.bx_engine.proofs.Ascending.{at_or_above, Ascends, Member, Contains-from_member, Member-from_contains, Member-map, Member-map_cases, Member-range, Member-range_bounds, AllByRecursion-from_member, Ascends-map, Ascends-range, AllPairs-from_ascends}
 
 abbrev links : ℕ → List Edge
 links n = map link (range_with_len 0 n)
@@ -185,90 +185,7 @@ each_earlier_is_late_by_default k h = each_earlier_is_late DEFAULT_LIMITS k (rec
   height = omega arith;
 })
 
--- ---- counts of edges
-
-count_none : (q : Edge → Bool) (a n : ℕ) → ((w : ℕ) → a ≤ w → w < a + n → q (link w) ≡ false) → count_by q (map link (range_with_len a n)) ≡ 0
-count_none q a zero f = refl
-count_none q a (suc n) f =
-    let later = count_none q (a + 1) n (λ w l h. f w (omega arith) (omega arith)) in
-    rw (sum_by-cons, f a (omega arith) (omega arith)) (omega arith)
-
-count_one : (q : Edge → Bool) (a n v : ℕ) → a ≤ v → v < a + n → q (link v) ≡ true → ((w : ℕ) → w ≢ v → q (link w) ≡ false) → count_by q (map link (range_with_len a n)) ≡ 1
-count_one q a zero v low high here other = absurd (omega arith)
-count_one q a (suc n) v low high here other =
-    elim (at_or_above a v low) [
-      | inl e ↦ (let later = count_none q (a + 1) n (λ w l h. other w (omega arith)) in
-          let first : q (link a) ≡ true = subst (λ (x : ℕ). q (link x) ≡ true) (sym e) here in
-          rw (sum_by-cons, first) (omega arith))
-      | inr l ↦ (let later = count_one q (a + 1) n v l (omega arith) here other in
-          rw (sum_by-cons, other a (omega arith)) (omega arith))
-    ]
-
-both_true : (p q : Bool) → p ≡ true → q ≡ true → (p && q) ≡ true
-both_true p q e f = rw (e, f) refl
-
-first_false : (p q : Bool) → p ≡ false → (p && q) ≡ false
-first_false p q e = rw e refl
-
-second_false : (p q : Bool) → q ≡ false → (p && q) ≡ false
-second_false true q e = e
-second_false false q e = refl
-
-abbrev one_if : Bool → ℕ
-one_if b = if b then 1 else 0
-
--- no number but 0 is below 1
-none_below : (x : ℕ) → one_if (nat_lt (suc x) 1) ≡ 0
-none_below x = ap one_if (le-ltb (suc x) 1 (omega arith))
-
-leaving_none : (n v slot : ℕ) → n ≤ v → leaving (links n) v slot ≡ 0
-leaving_none n v slot h = count_none (λ e. (e.source == v) && (e.slot == slot)) 0 n (λ w l b. first_false _ _ (ne_eqb w v (omega arith)))
-
-leaving_one : (n v slot : ℕ) → v < n → leaving (links n) v slot ≡ (if nat_lt slot 1 then 1 else 0)
-leaving_one n v zero h = count_one (λ e. (e.source == v) && (e.slot == 0)) 0 n v (omega arith) (omega arith) (both_true _ _ (eq-eqb v v refl) refl) (λ w d. first_false _ _ (ne_eqb w v d))
-leaving_one n v (suc slot) h = count_none (λ e. (e.source == v) && (e.slot == suc slot)) 0 n (λ w l b. second_false _ _ (ne_eqb 0 (suc slot) (omega arith))) ∙ sym (none_below slot)
-
-entering_none : (n operand : ℕ) → entering (links n) 0 operand ≡ 0
-entering_none n operand = count_none (λ e. (e.target == 0) && (e.operand == operand)) 0 n (λ w l b. first_false _ _ (ne_eqb (w + 1) 0 (omega arith)))
-
-entering_one : (n v operand : ℕ) → v < n → entering (links n) (suc v) operand ≡ (if nat_lt operand 1 then 1 else 0)
-entering_one n v zero h = count_one (λ e. (e.target == suc v) && (e.operand == 0)) 0 n v (omega arith) (omega arith) (both_true _ _ (eq-eqb (v + 1) (suc v) (omega arith)) refl) (λ w d. first_false _ _ (ne_eqb (w + 1) (suc v) (λ e. d (omega arith))))
-entering_one n v (suc operand) h = count_none (λ e. (e.target == suc v) && (e.operand == suc operand)) 0 n (λ w l b. second_false _ _ (ne_eqb 0 (suc operand) (omega arith))) ∙ sym (none_below operand)
-
--- no number is below 0
-none_below_none : (x : ℕ) → one_if (nat_lt x 0) ≡ 0
-none_below_none x = ap one_if (le-ltb x 0 (omega arith))
-
-leaves_of : (k v : ℕ) (node : Node) → Place k v node → (slot : ℕ) → leaving (links (k + 1)) v slot ≡ one_if (nat_lt slot (slots node.kind))
-leaves_of k v node (first a b) slot = rw b (leaving_one (k + 1) v slot (omega arith))
-leaves_of k v node (inner a b c) slot = rw c (leaving_one (k + 1) v slot (omega arith))
-leaves_of k v node (last a b) slot = rw b (leaving_none (k + 1) v slot (omega arith) ∙ sym (none_below_none slot))
-
-enters_of : (k v : ℕ) (node : Node) → Place k v node → (operand : ℕ) → entering (links (k + 1)) v operand ≡ one_if (nat_lt operand (operands node.kind))
-enters_of k zero node (first a b) operand = rw b (entering_none (k + 1) operand ∙ sym (none_below_none operand))
-enters_of k (suc v) node (first a b) operand = absurd (omega arith)
-enters_of k zero node (inner a b c) operand = absurd (omega arith)
-enters_of k (suc v) node (inner a b c) operand = rw c (entering_one (k + 1) v operand (omega arith))
-enters_of k zero node (last a b) operand = absurd (omega arith)
-enters_of k (suc v) node (last a b) operand = rw b (entering_one (k + 1) v operand (omega arith))
-
-link_within : (k : ℕ) (e : Edge) → Member e (links (k + 1)) → (e.source < suc (length (rest k))) × (e.target < suc (length (rest k)))
-link_within k e m =
-    let l = link_of_member (k + 1) e m in
-    let r = length_rest k in
-    let a = l.source in
-    let b = l.target in
-    (omega arith, omega arith)
-
-pub chain_is_network : (k : ℕ) → IsNetwork (chain_network k)
-chain_is_network k = record {
-  within = AllByRecursion-from_member (λ (e : Edge). (e.source < suc (length (rest k))) × (e.target < suc (length (rest k)))) (links (k + 1)) (link_within k);
-  leaves = λ v kind h slot. subst (λ (kind : Kind). leaving (links (k + 1)) v slot ≡ one_if (nat_lt slot (slots kind))) h.2 (leaves_of k v h.0 (place k v h.0 h.1) slot);
-  enters = λ v kind h operand. subst (λ (kind : Kind). entering (links (k + 1)) v operand ≡ one_if (nat_lt operand (operands kind))) h.2 (enters_of k v h.0 (place k v h.0 h.1) operand);
-  ascending = AllPairs-from_ascends IsBefore (links (k + 1)) (Ascends-map ◌<◌ IsBefore link (range_with_len 0 (k + 1)) (λ v w m n l. inl l) (Ascends-range 0 (k + 1)));
-}
-
--- ---- values
+-- ---- the edges at a node
 
 filter_none : (q : Edge → Bool) (a n : ℕ) → ((w : ℕ) → a ≤ w → w < a + n → q (link w) ≡ false) → filter q (map link (range_with_len a n)) ≡ []
 filter_none q a zero f = refl
@@ -284,12 +201,94 @@ filter_one q a (suc n) v low high here other =
       | inr l ↦ rw (other a (omega arith)) (filter_one q (a + 1) n v l (omega arith) here other)
     ]
 
+both_true : (p q : Bool) → p ≡ true → q ≡ true → (p && q) ≡ true
+both_true p q e f = rw (e, f) refl
+
+leaving_first : (n v : ℕ) → v < n → leaving (links n) v 0 ≡ link v ∷ []
+leaving_first n v h =
+    let here = both_true (v == v) (0 == 0) (eq-eqb v v refl) refl in
+    filter_one (λ e. (e.source == v) && (e.slot == 0)) 0 n v (omega arith) (omega arith) here (λ w d. first_false _ _ (ne_eqb w v d))
+
+leaving_later : (n v slot : ℕ) → leaving (links n) v (suc slot) ≡ []
+leaving_later n v slot =
+    filter_none (λ e. (e.source == v) && (e.slot == suc slot)) 0 n (λ w l b. second_false _ _ (ne_eqb 0 (suc slot) (omega arith)))
+
+leaving_none : (n v slot : ℕ) → n ≤ v → leaving (links n) v slot ≡ []
+leaving_none n v slot h =
+    filter_none (λ e. (e.source == v) && (e.slot == slot)) 0 n (λ w l b. first_false _ _ (ne_eqb w v (omega arith)))
+
+entering_first : (n v : ℕ) → v < n → entering (links n) (suc v) 0 ≡ link v ∷ []
+entering_first n v h =
+    let here = both_true ((v + 1) == suc v) (0 == 0) (eq-eqb (v + 1) (suc v) (omega arith)) refl in
+    let other : (w : ℕ) → w ≢ v → ((w + 1) == suc v) ≡ false = λ w d. ne_eqb (w + 1) (suc v) (λ e. d (omega arith)) in
+    filter_one (λ e. (e.target == suc v) && (e.operand == 0)) 0 n v (omega arith) (omega arith) here (λ w d. first_false _ _ (other w d))
+
+entering_later : (n v operand : ℕ) → entering (links n) v (suc operand) ≡ []
+entering_later n v operand =
+    filter_none (λ e. (e.target == v) && (e.operand == suc operand)) 0 n (λ w l b. second_false _ _ (ne_eqb 0 (suc operand) (omega arith)))
+
+entering_none : (n operand : ℕ) → entering (links n) 0 operand ≡ []
+entering_none n operand =
+    filter_none (λ e. (e.target == 0) && (e.operand == operand)) 0 n (λ w l b. first_false _ _ (ne_eqb (w + 1) 0 (omega arith)))
+
+-- no number but 0 is below 1, and none below 0
+none_below : (x : ℕ) → 0 ≡ one_if (nat_lt (suc x) 1)
+none_below x = ap one_if (sym (le-ltb (suc x) 1 (omega arith)))
+
+none_below_none : (x : ℕ) → 0 ≡ one_if (nat_lt x 0)
+none_below_none x = ap one_if (sym (le-ltb x 0 (omega arith)))
+
+leaving_one : (n v slot : ℕ) → v < n → length (leaving (links n) v slot) ≡ one_if (nat_lt slot 1)
+leaving_one n v zero h = ap length (leaving_first n v h)
+leaving_one n v (suc slot) h = ap length (leaving_later n v slot) ∙ none_below slot
+
+entering_one : (n v operand : ℕ) → v < n → length (entering (links n) (suc v) operand) ≡ one_if (nat_lt operand 1)
+entering_one n v zero h = ap length (entering_first n v h)
+entering_one n v (suc operand) h = ap length (entering_later n (suc v) operand) ∙ none_below operand
+
+abbrev Leaves : ℕ → ℕ → Kind → Type 0
+Leaves k v kind = (slot : ℕ) → length (leaving (links (k + 1)) v slot) ≡ one_if (nat_lt slot (slots kind))
+
+leaves_of : (k v : ℕ) (node : Node) → Place k v node → Leaves k v node.kind
+leaves_of k v node (first a b) slot = rw b (leaving_one (k + 1) v slot (omega arith))
+leaves_of k v node (inner a b c) slot = rw c (leaving_one (k + 1) v slot (omega arith))
+leaves_of k v node (last a b) slot = rw b (ap length (leaving_none (k + 1) v slot (omega arith)) ∙ none_below_none slot)
+
+abbrev Enters : ℕ → ℕ → Kind → Type 0
+Enters k v kind = (operand : ℕ) → length (entering (links (k + 1)) v operand) ≡ one_if (nat_lt operand (operands kind))
+
+enters_of : (k v : ℕ) (node : Node) → Place k v node → Enters k v node.kind
+enters_of k zero node (first a b) operand = rw b (ap length (entering_none (k + 1) operand) ∙ none_below_none operand)
+enters_of k (suc v) node (first a b) operand = absurd (omega arith)
+enters_of k zero node (inner a b c) operand = absurd (omega arith)
+enters_of k (suc v) node (inner a b c) operand = rw c (entering_one (k + 1) v operand (omega arith))
+enters_of k zero node (last a b) operand = absurd (omega arith)
+enters_of k (suc v) node (last a b) operand = rw b (entering_one (k + 1) v operand (omega arith))
+
+links_ascend : (n : ℕ) → Ascends IsBefore (links n)
+links_ascend n = Ascends-map ◌<◌ IsBefore link (range_with_len 0 n) (λ v w m n l. inl l) (Ascends-range 0 n)
+
+link_within : (k : ℕ) (e : Edge) → Member e (links (k + 1)) → (e.source < suc (length (rest k))) × (e.target < suc (length (rest k)))
+link_within k e m =
+    let l = link_of_member (k + 1) e m in
+    let r = length_rest k in
+    let a = l.source in
+    let b = l.target in
+    (omega arith, omega arith)
+
+pub chain_is_network : (k : ℕ) → IsNetwork (chain_network k)
+chain_is_network k = record {
+  within = AllByRecursion-from_member (λ (e : Edge). (e.source < suc (length (rest k))) × (e.target < suc (length (rest k)))) (links (k + 1)) (link_within k);
+  leaves = λ v kind (node, found, same). subst (Leaves k v) same (leaves_of k v node (place k v node found));
+  enters = λ v kind (node, found, same). subst (Enters k v) same (enters_of k v node (place k v node found));
+  ascending = AllPairs-from_ascends IsBefore (links (k + 1)) (links_ascend (k + 1));
+}
+
+-- ---- values
+
 -- a node reads the one before it
-reads_one : (n v : ℕ) (values : ℕ → Bool) → v < n → read_by (links n) values (suc v) 0 ++ read_by (links n) values (suc v) 1 ≡ values v ∷ []
-reads_one n v values h =
-    let one = filter_one (λ e. (e.target == suc v) && (e.operand == 0)) 0 n v (omega arith) (omega arith) (both_true _ _ (eq-eqb (v + 1) (suc v) (omega arith)) refl) (λ w d. first_false _ _ (ne_eqb (w + 1) (suc v) (λ e. d (omega arith)))) in
-    let none = filter_none (λ e. (e.target == suc v) && (e.operand == 1)) 0 n (λ w l b. second_false _ _ (ne_eqb 0 1 (omega arith))) in
-    rw (one, none) refl
+reads_one : (k v : ℕ) (values : ℕ → Bool) → v < k + 1 → reads (chain_network k) values (suc v) ≡ values v ∷ []
+reads_one k v values h = rw (entering_first (k + 1) v h, entering_later (k + 1) (suc v) 0) refl
 
 not_in_rest : (k v : ℕ) → v < k → slice_get (rest k) v ≡ Some not_node
 not_in_rest zero v h = absurd (omega arith)
@@ -301,15 +300,15 @@ values_inside k zero given values h l = h 0 input_node refl
 values_inside k (suc v) given values h l =
     let before = values_inside k v given values h (omega arith) in
     let here = h (suc v) not_node (not_in_rest k v (omega arith)) in
-    let reads = reads_one (k + 1) v values (omega arith) in
-    here ∙ ap (λ (bs : List Bool). not (first_value bs)) reads ∙ ap not before
+    let read = reads_one k v values (omega arith) in
+    here ∙ ap (λ (bs : List Bool). not (first_value bs)) read ∙ ap not before
 
 value_of_output : (k : ℕ) (given values : ℕ → Bool) → IsValuation (chain_network k) given values → values (suc k) ≡ inverted k (given 0)
 value_of_output k given values h =
     let before = values_inside k k given values h (omega arith) in
     let here = h (suc k) output_node (output_in_rest k) in
-    let reads = reads_one (k + 1) k values (omega arith) in
-    here ∙ ap (λ (bs : List Bool). first_value bs) reads ∙ before
+    let read = reads_one k k values (omega arith) in
+    here ∙ ap (λ (bs : List Bool). first_value bs) read ∙ before
 
 below_or_last : (v k : ℕ) → v < k + 2 → (v ≤ k) ⊎ (v ≡ suc k)
 below_or_last v k h = grind arith
@@ -329,15 +328,15 @@ value_at k given values h v l = let e : min v k ≡ v = omega arith in h v (omeg
 value_at_last : (k : ℕ) (given values : ℕ → Bool) → HasInversions k given values → values (suc k) ≡ inverted k (given 0)
 value_at_last k given values h = let e : min (suc k) k ≡ k = omega arith in h (suc k) (omega arith) ∙ ap (λ (x : ℕ). inverted x (given 0)) e
 
-meets : (k v : ℕ) (node : Node) (given values : ℕ → Bool) → HasInversions k given values → Place k v node → values v ≡ kind_value node.kind (given node.port) (read_by (links (k + 1)) values v 0 ++ read_by (links (k + 1)) values v 1)
+meets : (k v : ℕ) (node : Node) (given values : ℕ → Bool) → HasInversions k given values → Place k v node → values v ≡ kind_value node.kind (given node.port) (reads (chain_network k) values v)
 meets k v node given values h (first a b) = rw (a, b) (value_at k given values h 0 (omega arith))
 meets k zero node given values h (inner a b c) = absurd (omega arith)
 meets k (suc v) node given values h (inner a b c) =
-    rw (c, reads_one (k + 1) v values (omega arith)) (value_at k given values h (suc v) b ∙ ap not (sym (value_at k given values h v (omega arith))))
+    rw (c, reads_one k v values (omega arith)) (value_at k given values h (suc v) b ∙ ap not (sym (value_at k given values h v (omega arith))))
 meets k zero node given values h (last a b) = absurd (omega arith)
 meets k (suc v) node given values h (last a b) =
     let e : v ≡ k = omega arith in
-    rw (b, e, reads_one (k + 1) k values (omega arith)) (value_at_last k given values h ∙ sym (value_at k given values h k (omega arith)))
+    rw (b, e, reads_one k k values (omega arith)) (value_at_last k given values h ∙ sym (value_at k given values h k (omega arith)))
 
 -- the network of a chain has one valuation, in which each `not` inverts
 pub chain_inverts : (k : ℕ) (given values : ℕ → Bool) → IsValuation (chain_network k) given values ↔ ((v : ℕ) → v < k + 2 → values v ≡ inverted (min v k) (given 0))

@@ -4,6 +4,7 @@ pub mod Chains
 pub mod Columns
 pub mod Layouts
 pub mod Ascending
+pub mod BranchingNetworks
 pub mod ChainNetworks
 pub mod Networks
 pub mod Orders

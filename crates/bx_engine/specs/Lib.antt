@@ -1,12 +1,13 @@
-pub mod Forms
-pub mod Tiles
-pub mod Grids
-pub mod Columns
+pub mod BranchingNetworks
 pub mod ChainNetworks
+pub mod Columns
 pub mod Counts
+pub mod Forms
+pub mod Grids
 pub mod Networks
 pub mod Orders
 pub mod Statuses
 pub mod Texts
 pub mod Words
 pub mod Says
+pub mod Tiles

@@ -1,5 +1,5 @@
 -- A mapped network: nodes with a kind, and edges from a slot of one node to an operand of another.
-use Rattle.std.specs.Prelude.{◌≡◌, ℕ, zero, suc, ◌<◌, ◌≤◌, ◌==◌, ◌&&◌, nat_lt, ◌⊎◌, if◌then◌else◌, List, length, slice_get, count_by, Some, Contains, AllPairs, Bool, not, ◌++◌, map, filter}
+use Rattle.std.specs.Prelude.{◌≡◌, ℕ, zero, suc, ◌<◌, ◌≤◌, ◌==◌, ◌&&◌, nat_lt, ◌⊎◌, if◌then◌else◌, List, length, slice_get, Some, Contains, AllPairs, Bool, not, ◌++◌, map, filter}
 use Rattle.std.specs.List.{AllByRecursion}
 use Rattle.bx_logic.specs.Op.{conjunction, disjunction, parity, first_value}
 use Rattle.bx_engine.specs.declared.forms.Kind.{Kind}
@@ -40,13 +40,13 @@ slots Output = 0
 slots Fan = 2
 slots _ = 1
 
--- how many edges leave this node by this slot
-abbrev pub leaving : List Edge → ℕ → ℕ → ℕ
-leaving edges v slot = count_by (λ e. (e.source == v) && (e.slot == slot)) edges
+-- the edges that leave this node by this slot
+abbrev pub leaving : List Edge → ℕ → ℕ → List Edge
+leaving edges v slot = filter (λ e. (e.source == v) && (e.slot == slot)) edges
 
--- how many edges enter this node by this operand
-abbrev pub entering : List Edge → ℕ → ℕ → ℕ
-entering edges v operand = count_by (λ e. (e.target == v) && (e.operand == operand)) edges
+-- the edges that enter this node by this operand
+abbrev pub entering : List Edge → ℕ → ℕ → List Edge
+entering edges v operand = filter (λ e. (e.target == v) && (e.operand == operand)) edges
 
 -- by source, and then by slot
 abbrev pub IsBefore : Edge → Edge → Type 0
@@ -56,11 +56,14 @@ IsBefore e f = (e.source < f.source) ⊎ ((e.source ≡ f.source) × (e.slot < f
 abbrev pub HasKind : Network → ℕ → Kind → Type 0
 HasKind N v kind = (node : Node) × (slice_get N.nodes v ≡ Some node) × (node.kind ≡ kind)
 
+abbrev pub one_if : Bool → ℕ
+one_if b = if b then 1 else 0
+
 -- one edge by each slot and each operand that a node's kind has, and none by another; the edges ascend
 pub record IsNetwork (N : Network) : Type 0 where
   pub within : AllByRecursion (λ e. (e.source < length N.nodes) × (e.target < length N.nodes)) N.edges
-  pub leaves : (v : ℕ) (kind : Kind) → HasKind N v kind → (slot : ℕ) → leaving N.edges v slot ≡ (if nat_lt slot (slots kind) then 1 else 0)
-  pub enters : (v : ℕ) (kind : Kind) → HasKind N v kind → (operand : ℕ) → entering N.edges v operand ≡ (if nat_lt operand (operands kind) then 1 else 0)
+  pub leaves : (v : ℕ) (kind : Kind) → HasKind N v kind → (slot : ℕ) → length (leaving N.edges v slot) ≡ one_if (nat_lt slot (slots kind))
+  pub enters : (v : ℕ) (kind : Kind) → HasKind N v kind → (operand : ℕ) → length (entering N.edges v operand) ≡ one_if (nat_lt operand (operands kind))
   pub ascending : AllPairs IsBefore N.edges
 
 -- what a node of this kind gives, for the value of its port and the values that it reads
@@ -76,15 +79,14 @@ kind_value Nor given reads = not (disjunction reads)
 kind_value Xor given reads = parity reads
 kind_value Xnor given reads = not (parity reads)
 
--- the values of the edges that enter this node by this operand: an edge has its source's value
-abbrev pub read_by : List Edge → (ℕ → Bool) → ℕ → ℕ → List Bool
-read_by edges values v operand = map (λ e. values e.source) (filter (λ e. (e.target == v) && (e.operand == operand)) edges)
+-- what a node reads, operand 0 first: an edge has its source's value
+abbrev pub reads : Network → (ℕ → Bool) → ℕ → List Bool
+reads N values v = map (λ e. values e.source) (entering N.edges v 0 ++ entering N.edges v 1)
 
 -- where the ports have these given values, each node has the value that its kind gives of what it reads
 abbrev pub IsValuation : Network → (ℕ → Bool) → (ℕ → Bool) → Type 0
 IsValuation N given values =
-    (v : ℕ) (node : Node) → slice_get N.nodes v ≡ Some node
-    → values v ≡ kind_value node.kind (given node.port) (read_by N.edges values v 0 ++ read_by N.edges values v 1)
+    (v : ℕ) (node : Node) → slice_get N.nodes v ≡ Some node → values v ≡ kind_value node.kind (given node.port) (reads N values v)
 
 -- an edge leads from u to v
 abbrev pub HasEdge : List Edge → ℕ → ℕ → Type 0

@@ -1,10 +1,11 @@
 //! What holds of mapped networks, and of the network of a chain. Each law is the clause of a function
 //! that does nothing; how a network is found from a module is left to others.
 
-ghost use Rattle.std.specs.Prelude.{◌≡◌, ℕ, ◌+◌, ◌<◌, ◌≤◌, ◌↔◌, min, Bool, List, [], ◌∷◌};
+ghost use Rattle.std.specs.Prelude.{◌≡◌, ℕ, ◌+◌, ◌<◌, ◌≤◌, ◌↔◌, min, Bool, false, not, List, [], ◌∷◌};
 ghost use Rattle.bx_engine.specs.declared.grid.Ratio.{Ratio};
 ghost use Rattle.bx_engine.specs.declared.grid.Limits.{Limits};
 ghost use Rattle.bx_engine.specs.Networks.{Network, Edge, IsNetwork, IsValuation, IsDown, IsUp};
+ghost use Rattle.bx_engine.specs.BranchingNetworks.{branching_network};
 ghost use Rattle.bx_engine.specs.ChainNetworks.{chain_network, link, input_node, not_node, output_node, inverted};
 ghost use Rattle.bx_engine.specs.Orders.{IsWithin};
 ghost use Rattle.bx_engine.specs.Counts.{Late, EachEarlierIsLate};
@@ -30,6 +31,17 @@ pub fn the_network_of_one_inversion()
     ensures missing { ¬ IsNetwork (record { nodes = (chain_network 1).nodes; edges = link 0 ∷ [] }) }
     ensures turned { ¬ IsNetwork (record { nodes = (chain_network 1).nodes; edges = link 1 ∷ link 0 ∷ [] }) }
     ensures slot { ¬ IsNetwork (record { nodes = (chain_network 1).nodes; edges = link 0 ∷ (record (link 1) { slot = 1 }) ∷ [] }) }
+{}
+
+/// A network in which a value meets its own inversion in an `and`. Of the two ways to the `and` the
+/// longer one counts; the input refutes four rows, and no node five. Its one valuation ends in false.
+pub fn two_ways_lead_through_the_branching_network()
+    ensures network { IsNetwork branching_network }
+    ensures down { IsDown branching_network 3 3 }
+    ensures up { IsUp branching_network 1 3 }
+    ensures four { (width : ℕ) → Late branching_network (record { w = width; h = 4 }) 0 }
+    ensures five { (width v : ℕ) → ¬ Late branching_network (record { w = width; h = 5 }) v }
+    ensures values { (given values : ℕ → Bool) → IsValuation branching_network given values ↔ ((values 0 ≡ given 0) × (values 1 ≡ given 0) × (values 2 ≡ not (given 0)) × (values 3 ≡ false) × (values 4 ≡ false)) }
 {}
 
 /// The network of a chain has one valuation: each node but the output, which is the last, has the

@@ -9,3 +9,5 @@ pub mod ChainNetworks
 pub mod Networks
 pub mod Orders
 pub mod Saying
+pub mod Joined
+pub mod Lines

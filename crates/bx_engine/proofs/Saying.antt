@@ -1,5 +1,5 @@
 -- Texts said one after another through one piece.
-use Rattle.std.proofs.Common.{◌≡◌, ℕ, ◌+◌, ◌-◌, ◌^◌, ◌≤◌, min, List, [], ◌++◌, Option, Result, Ok, Err, sym, ◌∙◌, ap, subst, refl, arith, append_assoc}
+use Rattle.std.proofs.Common.{◌≡◌, ℕ, ◌+◌, ◌-◌, ◌^◌, ◌≤◌, ◌<◌, min, length, take, drop, get_or, List, [], ◌++◌, Option, Result, Ok, Err, sym, ◌∙◌, ap, subst, refl, arith, append_assoc}
 use Rattle.std.proofs.lemmas.List.{append-nil}
 use Rattle.std.proofs.lemmas.Result.{on_err_weaker}
 use Rattle.std.specs.Result.{IsErr, OnErr}
@@ -7,7 +7,9 @@ use Rattle.bx_desk.specs.Desk.{Files, Counts, Rose, SayCounts, Adds, AddsUpTo, A
 use Rattle.bx_desk.specs.Pieces.{HandsOn}
 use Rattle.bx_desk.specs.declared.desk.Failed.{Failed}
 use Rattle.bx_desk.proofs.Said.{adds-adds, adds_nothing}
+use Rattle.std.specs.List.{flat_map}
 use Rattle.bx_engine.specs.Says.{Says}
+use Rattle.bx_engine.proofs.Joined.{joined_more, joined_at}
 
 -- all but a rest was said, and then all but another rest of this rest and a text
 up_then : (s0 s1 s2 : Option (List ℕ)) (t p1 w p2 : List ℕ) → AddsUpTo s0 s1 t p1 → AddsUpTo s1 s2 (p1 ++ w) p2 → AddsUpTo s0 s2 (t ++ w) p2
@@ -57,3 +59,19 @@ module _ {D : Type 0} (files : D → Option Files) (said : D → Option (List �
     counts = a.counts;
     files_stay = a.files_stay;
   }
+
+  -- a turn of a loop that says a text for each element
+  pub says_turn : {X : Type 0} (old mid new : D) (r : Result (Unit {0}) Failed) (p0 p1 p2 : List ℕ) (f : X → List ℕ) (xs : List X) (i : ℕ) (d : X) → i < length xs → r ≡ Ok tt → Says {T = Unit {0}} files said faults old mid (Ok tt) p0 p1 (flat_map f (take i xs)) → Says files said faults mid new r p1 p2 (f (get_or xs i d)) → Says {T = Unit {0}} files said faults old new (Ok tt) p0 p2 (flat_map f (take (i + 1) xs))
+  says_turn old mid new r p0 p1 p2 f xs i d h ok before turn =
+      let at_ok : Says {T = Unit {0}} files said faults mid new (Ok tt) p1 p2 (f (get_or xs i d)) = subst (λ (q : Result (Unit {0}) Failed). Says files said faults mid new q p1 p2 (f (get_or xs i d))) ok turn in
+      subst (λ (ys : List ℕ). Says {T = Unit {0}} files said faults old new (Ok tt) p0 p2 ys) (sym (joined_more f xs i d h)) (says_then old mid new (Ok tt) tt (Ok tt) p0 p1 p2 _ _ refl before at_ok)
+
+  -- a turn that failed, and with it the loop
+  pub says_turn_failed : {X T : Type 0} (old mid new : D) (r : Result (Unit {0}) Failed) (e : Failed) (result : Result T Failed) (p0 p1 p2 : List ℕ) (f : X → List ℕ) (xs : List X) (i : ℕ) (d : X) → i < length xs → r ≡ Err e → IsErr result → Says {T = Unit {0}} files said faults old mid (Ok tt) p0 p1 (flat_map f (take i xs)) → Says files said faults mid new r p1 p2 (f (get_or xs i d)) → Says files said faults old new result p0 p2 (flat_map f xs)
+  says_turn_failed {X} {T} old mid new r e result p0 p1 p2 f xs i d h err is before turn =
+      subst (λ (ys : List ℕ). Says {T = T} files said faults old new result p0 p2 ys) (sym (joined_at f xs i d h))
+      (says_then old mid new (Ok tt) tt result p0 p1 p2 _ _ refl before (says_failed mid new r e result p1 p2 p2 (f (get_or xs i d)) _ err is turn))
+
+  -- the same text in another shape
+  pub says_as : {T : Type 0} (old new : D) (r : Result T Failed) (p0 p1 t w : List ℕ) → t ≡ w → Says files said faults old new r p0 p1 t → Says files said faults old new r p0 p1 w
+  says_as {T} old new r p0 p1 t w e h = subst (λ (xs : List ℕ). Says {T = T} files said faults old new r p0 p1 xs) e h

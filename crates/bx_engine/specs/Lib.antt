@@ -11,3 +11,6 @@ pub mod Texts
 pub mod Words
 pub mod Says
 pub mod Tiles
+pub mod Runs
+pub mod Rows
+pub mod Reports

@@ -11,6 +11,7 @@ use Rattle.bx_engine.specs.Forms.{form_name}
 use Rattle.bx_engine.specs.Tiles.{x_of, y_of}
 use Rattle.bx_engine.specs.Grids.{FormGrid, Pin, Pins}
 use Rattle.bx_engine.specs.Networks.{Network}
+use Rattle.bx_engine.specs.Rows.{row_tiles}
 
 -- a word, and further words, each behind a space
 abbrev pub spaced : Text → List Text → Text
@@ -36,10 +37,6 @@ pin_line port ratio pin = spaced port (pin.name ∷ decimal (x_of ratio pin.tile
 abbrev pub tile_name : Option ℕ → Text
 tile_name None = codes "empty"
 tile_name (Some form) = unwrap_or (form_name form) []
-
--- the tiles of a row, from left to right
-abbrev pub row_tiles : FormGrid → ℕ → List (Option ℕ)
-row_tiles g y = take g.ratio.w (drop (y * g.ratio.w) g.tiles)
 
 abbrev pub row_line : FormGrid → ℕ → Text
 row_line g y = spaced (codes "row") (decimal y ∷ map tile_name (row_tiles g y))

@@ -54,6 +54,8 @@ impl Model for FormGrid {
 }
 
 impl FormGrid {
+    ghost use Rattle.bx_engine.specs.Rows.{row_tiles};
+
     /// The grid with these tiles, row by row. Takes no memory.
     pub fn new(ratio: Ratio, tiles: Vec<Option<Form>>) -> FormGrid
         requires { vec_len tiles ≡ tile_count ratio }
@@ -74,5 +76,15 @@ impl FormGrid {
         ensures { result ≡ slice_index_or self.now.tiles t None }
     {
         self.tiles[t as usize]
+    }
+
+    /// The tiles of a row, from left to right.
+    pub fn row(&self, y: u32) -> &[Option<Form>]
+        requires { y < self.now.ratio.h }
+        ensures { result.now ≡ row_tiles self.now y }
+    {
+        let width = self.ratio.w as usize;
+        let start = y as usize * width;
+        &self.tiles[start..start + width]
     }
 }

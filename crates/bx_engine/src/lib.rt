@@ -5,6 +5,7 @@ pub mod column;
 pub mod forms;
 pub mod grid;
 pub mod laws;
+mod report;
 mod say;
 mod status;
 

@@ -1,8 +1,9 @@
 //! Saying words and lines through a piece. Each call puts out exactly its text, or after a failure of
 //! the desk a front of it; which lines there are is left to the report and to `run`.
-ghost use Rattle.std.specs.Prelude.{◌++◌, [], ◌∷◌};
+ghost use Rattle.std.specs.Prelude.{◌++◌, [], ◌∷◌, map};
 ghost use Rattle.bx_desk.specs.Pieces.{pending};
 ghost use Rattle.bx_engine.specs.Says.{Says};
+ghost use Rattle.bx_engine.specs.Texts.{spaced};
 ghost use Rattle.bx_engine.specs.Words.{word_text, further_text};
 
 use bx_desk::{Desk, Failed, Piece};
@@ -24,8 +25,8 @@ pub fn put_word<D: Desk>(word: Word, piece: &mut Piece, desk: &mut D) -> Result<
     }
 }
 
-// Puts out a space and a word.
-fn put_spaced<D: Desk>(word: Word, piece: &mut Piece, desk: &mut D) -> Result<(), Failed>
+/// Puts out a space and a word.
+pub fn put_spaced<D: Desk>(word: Word, piece: &mut Piece, desk: &mut D) -> Result<(), Failed>
     ensures { Says D.files D.said D.faults desk.old desk.new result (pending piece.old) (pending piece.new) (32 ∷ word_text word.entry) }
 {
     put_word(Word::Text(b" "), piece, desk)?;
@@ -50,7 +51,7 @@ pub fn put_line<D: Desk>(
     desk: &mut D,
 ) -> Result<(), Failed>
     ensures { Says D.files D.said D.faults desk.old desk.new result (pending piece.old) (pending piece.new)
-        (first.now ++ (further_text further.now ++ 10 ∷ [])) }
+        (spaced first.now (map word_text further.now) ++ 10 ∷ []) }
 {
     put_word(Word::Text(first), piece, desk)?;
     put_words(further, piece, desk)?;

@@ -1,0 +1,82 @@
+//! The one call that the program makes: from its words to the said report or refusal, and a status.
+//!
+//! Its clauses are the tool's promise. Each status is tied to its cause in both directions: it comes
+//! only where its cause stands, and where the cause stands nothing else comes but want of memory or a
+//! fault of the desk, which in turn come only where the desk's count of such faults rose.
+ghost use Rattle.std.specs.Prelude.{◌≡◌, ◌⊎◌, ℕ, List, Some, None, Option, IfErr, option_map};
+ghost use Rattle.bx_desk.specs.Desk.{Rose, LoadCounts, Adds, AddsFront};
+ghost use Rattle.bx_verilog.specs.Module.{Text};
+ghost use Rattle.bx_verilog.specs.Chain.{Chain as Written, IsChain, spelling, module_of};
+ghost use Rattle.bx_engine.specs.declared.grid.Ratio.{Ratio as Sides};
+ghost use Rattle.bx_engine.specs.declared.status.Which.{Which as Place};
+ghost use Rattle.bx_engine.specs.Statuses.{IsSettled};
+ghost use Rattle.bx_engine.specs.Texts.{refusal_text, word_fault_text, input_fault_text};
+ghost use Rattle.bx_engine.specs.Runs.{net_word, net_text, network_of, layout_of, report_of, IsLayout};
+
+use crate::column::column;
+use crate::report::put_report;
+use crate::status::{InputFault, Status, Which, WordFault};
+use bx_desk::{Desk, Failed, Gate, LoadFault, Piece};
+use bx_verilog::{Chain, ChainFault, read_chain};
+use std::alloc::Global;
+use std::thread::Threads;
+
+/// The most bytes that a module's file may have.
+pub const MODULE_BYTES: u64 = 1_048_576;
+
+/// Runs the command of the words: `design NET` lays out the module in the file NET, and says the
+/// report. It waits for nobody. The gate is not entered and no thread is started yet.
+pub fn run<T: Threads + Sync, D: Desk, G: Gate + Sync>(
+    _threads: &T,
+    alloc: Global,
+    words: &[String],
+    desk: &mut D,
+    _gate: &G,
+) -> Status
+    // The words are refused where they aren't `design` and a file, and only there.
+    ensures words_only { result ≡ Status.Words WordFault.Command → net_word words.now ≡ None }
+    ensures words { IsSettled result → net_word words.now ≡ None → result ≡ Status.Words WordFault.Command }
+    ensures words_said { result ≡ Status.Words WordFault.Command
+        → Adds (D.said desk.old) (D.said desk.new) (refusal_text (word_fault_text WordFault.Command)) }
+
+    // A file is refused where it isn't of the form that is laid out, and only there.
+    ensures not_built_only { result ≡ Status.Refused InputFault.NotBuilt → (c : Written) → IsChain c
+        → net_text words.now (D.files desk.old) ≡ Some (spelling c) → ⊥ }
+    ensures not_built { IsSettled result → (text : Text) → net_text words.now (D.files desk.old) ≡ Some text
+        → ((c : Written) → IsChain c → text ≡ spelling c → ⊥) → result ≡ Status.Refused InputFault.NotBuilt }
+    ensures not_built_said { result ≡ Status.Refused InputFault.NotBuilt
+        → Adds (D.said desk.old) (D.said desk.new) (refusal_text (input_fault_text InputFault.NotBuilt)) }
+
+    // A layout is found where the file is of that form, and only there, and its report is said.
+    ensures found_only { (ratio : Sides) → result ≡ Status.Found ratio → (text : Text) → net_text words.now (D.files desk.old) ≡ Some text
+        → (c : Written) × IsChain c × (text ≡ spelling c) }
+    ensures found { IsSettled result → (c : Written) → IsChain c → net_text words.now (D.files desk.old) ≡ Some (spelling c)
+        → result ≡ Status.Found (layout_of c).ratio }
+    ensures found_said { (ratio : Sides) → result ≡ Status.Found ratio → (c : Written) → IsChain c
+        → net_text words.now (D.files desk.old) ≡ Some (spelling c) → Adds (D.said desk.old) (D.said desk.new) (report_of c) }
+
+    // What the report prints is a sound layout that computes the module, and each earlier ratio is refuted.
+    ensures layout { (ratio : Sides) → result ≡ Status.Found ratio → (c : Written) → IsChain c
+        → net_text words.now (D.files desk.old) ≡ Some (spelling c) → IsLayout c.name (module_of c) (network_of c) ratio (report_of c) }
+
+    // Faults of the desk come only where its counts rose, and want of memory says nothing.
+    ensures read_fault { (which : Place) → result ≡ Status.ReadFault which
+        → (which ≡ Which.NetFile) × Rose (D.faults desk.old).load (D.faults desk.new).load }
+    ensures read_fault_said { (which : Place) → result ≡ Status.ReadFault which → D.said desk.new ≡ D.said desk.old }
+    ensures write_fault { (which : Place) → result ≡ Status.WriteFault which
+        → (which ≡ Which.Output) × Rose (D.faults desk.old).say (D.faults desk.new).say }
+    ensures write_fault_said { (which : Place) → result ≡ Status.WriteFault which
+        → WhatIsSaid words.now (D.files desk.old) (AddsFront (D.said desk.old) (D.said desk.new)) }
+    ensures no_memory_said { result ≡ Status.NoMemory → D.said desk.new ≡ D.said desk.old }
+
+    ensures files_stay { D.files desk.new ≡ D.files desk.old }
+{
+    let Some(net) = net_word(words) else {
+        return refuse(desk, Status::Words(WordFault::Command));
+    };
+    match load_chain(alloc, net, desk) {
+        Ok(chain) => design(alloc, &chain, desk),
+        Err(Status::Refused(fault)) => refuse(desk, Status::Refused(fault)),
+        Err(status) => status,
+    }
+}

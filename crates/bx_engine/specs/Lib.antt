@@ -14,3 +14,4 @@ pub mod Tiles
 pub mod Runs
 pub mod Rows
 pub mod Reports
+pub mod Endings

@@ -3,7 +3,7 @@ use Rattle.std.specs.Prelude.{◌≡◌, ℕ, ◌+◌, List, [], ◌∷◌, code
 use Rattle.std.specs.Str.{bytes_eq}
 use Rattle.bx_desk.specs.Desk.{Files, Adds}
 use Rattle.bx_verilog.specs.Module.{Text, Module}
-use Rattle.bx_verilog.specs.Chain.{Chain, inversions, module_of}
+use Rattle.bx_verilog.specs.Chain.{Chain, IsChain, spelling, inversions, module_of}
 use Rattle.bx_engine.specs.declared.grid.Ratio.{Ratio}
 use Rattle.bx_engine.specs.declared.grid.TheConstants.{DEFAULT_LIMITS}
 use Rattle.bx_engine.specs.Grids.{FormGrid, Pins, IsSound, ArePins, Computes}
@@ -11,7 +11,11 @@ use Rattle.bx_engine.specs.Networks.{Network}
 use Rattle.bx_engine.specs.ChainNetworks.{chain_network}
 use Rattle.bx_engine.specs.Columns.{column, column_pins}
 use Rattle.bx_engine.specs.Counts.{EachEarlierIsLate}
-use Rattle.bx_engine.specs.Texts.{report_text}
+use Rattle.bx_engine.specs.declared.status.Status.{Status}
+use Rattle.bx_engine.specs.declared.status.Status.TheVariants.{Words, Refused, Found}
+use Rattle.bx_engine.specs.declared.status.InputFault.TheVariants.{NotBuilt}
+use Rattle.bx_engine.specs.declared.status.WordFault.TheVariants.{Command}
+use Rattle.bx_engine.specs.Texts.{report_text, refusal_text, word_fault_text, input_fault_text}
 
 -- the file that the words name: `design` and a file, and nothing else
 module _ {A : Type 0} where
@@ -43,3 +47,17 @@ pub record IsLayout (name : Text) (m : Module) (N : Network) (ratio : Ratio) (re
   pub ports : ArePins grid m pins
   pub computes : Computes grid pins m
   pub least : EachEarlierIsLate DEFAULT_LIMITS N ratio
+
+-- the file isn't of the form that is laid out, as far as the desk tells
+abbrev pub IsOfNoForm : {A : Type 0} → List (String A) → Option Files → Type 0
+IsOfNoForm words told = (c : Chain) → IsChain c → net_text words told ≡ Some (spelling c) → ⊥
+
+-- the file has this text, as far as the desk tells
+abbrev pub HasText : {A : Type 0} → List (String A) → Option Files → Text → Type 0
+HasText words told text = (told_text : Text) → net_text words told ≡ Some told_text → told_text ≡ text
+
+-- the status that the words and the file give, and what is said with it
+pub data IsAnswer {A : Type 0} (words : List (String A)) (told : Option Files) : Status → Text → Type 0 where
+  no_command : net_word words ≡ None → IsAnswer words told (Words Command) (refusal_text (word_fault_text Command))
+  no_form : IsOfNoForm words told → IsAnswer words told (Refused NotBuilt) (refusal_text (input_fault_text NotBuilt))
+  laid_out : (c : Chain) → IsChain c → HasText words told (spelling c) → IsAnswer words told (Found (layout_of c).ratio) (report_of c)

@@ -6,7 +6,9 @@ pub mod forms;
 pub mod grid;
 pub mod laws;
 mod report;
+mod engine;
 mod say;
 mod status;
 
+pub use engine::{MODULE_BYTES, run};
 pub use status::{InputFault, Status, Which, WordFault};

@@ -3,18 +3,25 @@
 //! Its clauses are the tool's promise. Each status is tied to its cause in both directions: it comes
 //! only where its cause stands, and where the cause stands nothing else comes but want of memory or a
 //! fault of the desk, which in turn come only where the desk's count of such faults rose.
-ghost use Rattle.std.specs.Prelude.{◌≡◌, ◌⊎◌, ℕ, List, Some, None, Option, IfErr, option_map};
+ghost use Rattle.std.specs.Prelude.{◌≡◌, ◌⊎◌, ℕ, List, Some, None, Option, ◌≤◌, IfOk, IfErr, option_map};
 ghost use Rattle.bx_desk.specs.Desk.{Rose, LoadCounts, Adds, AddsFront};
 ghost use Rattle.bx_verilog.specs.Module.{Text};
-ghost use Rattle.bx_verilog.specs.Chain.{Chain as Written, IsChain, spelling, module_of};
+ghost use Rattle.bx_verilog.specs.Chain.{Chain as Written, IsChain, spelling, module_of, most_inversions};
+ghost use Rattle.bx_desk.specs.Pieces.{pending};
+ghost use Rattle.bx_engine.specs.Columns.{column as column_of};
+ghost use Rattle.bx_engine.specs.Reports.{report_shown};
+ghost use Rattle.bx_engine.specs.Runs.{net_word as net_word_of};
+ghost use Rattle.bx_engine.specs.Endings.{EndsSaying, ReadsChain, LoadEnds};
 ghost use Rattle.bx_engine.specs.declared.grid.Ratio.{Ratio as Sides};
 ghost use Rattle.bx_engine.specs.declared.status.Which.{Which as Place};
 ghost use Rattle.bx_engine.specs.Statuses.{IsSettled};
 ghost use Rattle.bx_engine.specs.Texts.{refusal_text, word_fault_text, input_fault_text};
-ghost use Rattle.bx_engine.specs.Runs.{net_word, net_text, network_of, layout_of, report_of, IsLayout};
+ghost use Rattle.bx_engine.specs.Runs.{net_word, net_text, network_of, layout_of, report_of, IsLayout, IsAnswer};
+ghost use Rattle.bx_engine.specs.declared.status.Status.{Status as Ending};
 
 use crate::column::column;
 use crate::report::put_report;
+use crate::say::{Word, put_line};
 use crate::status::{InputFault, Status, Which, WordFault};
 use bx_desk::{Desk, Failed, Gate, LoadFault, Piece};
 use bx_verilog::{Chain, ChainFault, read_chain};
@@ -66,17 +73,92 @@ pub fn run<T: Threads + Sync, D: Desk, G: Gate + Sync>(
     ensures write_fault { (which : Place) → result ≡ Status.WriteFault which
         → (which ≡ Which.Output) × Rose (D.faults desk.old).say (D.faults desk.new).say }
     ensures write_fault_said { (which : Place) → result ≡ Status.WriteFault which
-        → WhatIsSaid words.now (D.files desk.old) (AddsFront (D.said desk.old) (D.said desk.new)) }
+        → (status : Ending) × (text : Text) × IsAnswer words.now (D.files desk.old) status text × AddsFront (D.said desk.old) (D.said desk.new) text }
     ensures no_memory_said { result ≡ Status.NoMemory → D.said desk.new ≡ D.said desk.old }
 
     ensures files_stay { D.files desk.new ≡ D.files desk.old }
 {
     let Some(net) = net_word(words) else {
-        return refuse(desk, Status::Words(WordFault::Command));
+        return refuse(desk, "words command", Status::Words(WordFault::Command));
     };
     match load_chain(alloc, net, desk) {
         Ok(chain) => design(alloc, &chain, desk),
-        Err(Status::Refused(fault)) => refuse(desk, Status::Refused(fault)),
+        Err(Status::Refused(InputFault::NotBuilt)) => {
+            refuse(desk, "not built", Status::Refused(InputFault::NotBuilt))
+        }
         Err(status) => status,
+    }
+}
+
+// The file that the words name.
+fn net_word(words: &[String]) -> Option<&str>
+    ensures { option_map (λ net. net.now) result ≡ net_word_of words.now }
+{
+    match words {
+        [command, net] if command.as_str() == "design" => Some(net.as_str()),
+        _ => None,
+    }
+}
+
+// Loads the file and reads its chain. An `Err` is a refusal of the file, or a status after which
+// nothing is to be said.
+fn load_chain<D: Desk>(alloc: Global, net: &str, desk: &mut D) -> Result<Chain, Status>
+    ensures chain { IfOk result (λ chain. ReadsChain (D.files desk.old) net.now chain) }
+    ensures err { IfErr result (λ status. LoadEnds (D.files desk.old) net.now (D.faults desk.old) (D.faults desk.new) status) }
+    ensures counts { LoadCounts (D.faults desk.old) (D.faults desk.new) }
+    ensures files_stay { D.files desk.new ≡ D.files desk.old }
+    ensures said_stays { D.said desk.new ≡ D.said desk.old }
+{
+    let mut text = Vec::new(alloc);
+    match desk.load(net, MODULE_BYTES, &mut text) {
+        Ok(()) => match read_chain(alloc, &text) {
+            Ok(chain) => Ok(chain),
+            Err(ChainFault::NotAChain) => Err(Status::Refused(InputFault::NotBuilt)),
+            Err(ChainFault::NoMemory) => Err(Status::NoMemory),
+        },
+        Err(LoadFault::TooLong) => Err(Status::Refused(InputFault::NotBuilt)),
+        Err(LoadFault::Failed) => Err(Status::ReadFault(Which::NetFile)),
+        Err(LoadFault::NoMemory) => Err(Status::NoMemory),
+    }
+}
+
+// Lays the chain out in one column, and says the report.
+fn design<D: Desk>(alloc: Global, chain: &Chain, desk: &mut D) -> Status
+    requires { chain.now.inversions ≤ most_inversions }
+    ensures { EndsSaying D.files D.said D.faults desk.old desk.new result (Status.Found (column_of chain.now.inversions).ratio) (report_shown chain.now) }
+{
+    let Ok(grid) = column(alloc, chain.inversions) else {
+        return Status::NoMemory;
+    };
+    let mut piece = Piece::to_say();
+    match put_report(chain, &grid, &mut piece, desk) {
+        Ok(()) => end(piece, desk, Status::Found(grid.ratio())),
+        Err(Failed) => Status::WriteFault(Which::Output),
+    }
+}
+
+// Says the refusal that a status names.
+fn refuse<D: Desk>(desk: &mut D, fault: &str, status: Status) -> Status
+    ensures { EndsSaying D.files D.said D.faults desk.old desk.new result status (refusal_text fault.now) }
+{
+    let mut piece = Piece::to_say();
+    match put_line(
+        b"refused",
+        &[Word::Text(fault.as_bytes())],
+        &mut piece,
+        desk,
+    ) {
+        Ok(()) => end(piece, desk, status),
+        Err(Failed) => Status::WriteFault(Which::Output),
+    }
+}
+
+// Hands on what a piece holds, and ends with the status if that is said.
+fn end<D: Desk>(mut piece: Piece, desk: &mut D, status: Status) -> Status
+    ensures { EndsSaying D.files D.said D.faults desk.old desk.new result status (pending piece) }
+{
+    match piece.end(desk) {
+        Ok(()) => status,
+        Err(Failed) => Status::WriteFault(Which::Output),
     }
 }

@@ -20,7 +20,7 @@ pub record FormGrid : Type 0 where
 -- there are w * h tiles, and each form is one of the 28
 pub record IsFormGrid (g : FormGrid) : Type 0 where
   pub whole : length g.tiles ≡ tile_count g.ratio
-  pub forms : AllByRecursion (λ tile. (form : ℕ) → tile ≡ Some form → form < 28) g.tiles
+  pub forms : (t form : ℕ) → slice_index_or g.tiles t None ≡ Some form → form < 28
 
 abbrev pub shape_in : Option ℕ → Option Shape
 shape_in None = None

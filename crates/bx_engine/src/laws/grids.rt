@@ -1,19 +1,24 @@
 //! Laws about forms, grids and columns: what the table says of each form, that a grid has one
 //! valuation, that the column of a chain is sound and computes its module, and near misses that the
 //! definitions refuse. Nothing here runs.
-ghost use Rattle.std.specs.Prelude.{ℕ, Bool, List};
+ghost use Rattle.std.specs.Prelude.{◌≡◌, ℕ, Bool, true, List, codes};
+ghost use Rattle.bx_verilog.specs.Module.{Text};
 ghost use Rattle.bx_verilog.specs.Chain.{Chain, IsChain, inversions, module_of};
-ghost use Rattle.bx_engine.specs.Grids.{FormGrid, IsSound, IsOnlyBorderValuation, ArePins, Computes};
-ghost use Rattle.bx_engine.specs.Columns.{column, column_pins};
+ghost use Rattle.bx_engine.specs.Forms.{form_name};
+ghost use Rattle.bx_engine.specs.FormTable.{IsFormTable};
+ghost use Rattle.bx_engine.specs.Grids.{FormGrid, IsFormGrid, IsSound, IsOnlyBorderValuation, ArePins, Computes};
+ghost use Rattle.bx_engine.specs.Columns.{column, column_pins, input_r, output_l, output_r, not_ll, not_rr};
+ghost use Rattle.bx_engine.specs.Examples.{conjoined, conjoined_borders, wired, averted, cut_short, negation, three_row_pins, exchanged_pins};
 
 /// For any values of its input tiles the borders of a form grid have exactly one valuation.
 pub fn a_grid_has_one_valuation()
     ensures { (g : FormGrid) (given : ℕ → Bool) → (borders : List Bool) × IsOnlyBorderValuation g given borders }
 {}
 
-/// The column of any number of inversions is sound.
+/// The column of any number of inversions is a form grid, and sound.
 pub fn a_column_is_sound()
-    ensures { (k : ℕ) → IsSound (column k) }
+    ensures whole { (k : ℕ) → IsFormGrid (column k) }
+    ensures sound { (k : ℕ) → IsSound (column k) }
 {}
 
 /// The first tile of a chain's column stands for its input, the last for its output, and no other
@@ -26,3 +31,52 @@ pub fn a_column_has_its_pins()
 pub fn a_column_computes_its_chain()
     ensures { (c : Chain) → IsChain c → Computes (column (inversions c.statements)) (column_pins c) (module_of c) }
 {}
+
+/// The table of forms is the one that is described family by family.
+pub fn the_forms_are_as_described()
+    ensures { IsFormTable }
+{
+}
+
+/// The forms of a column are those with these names.
+pub fn a_column_has_forms_of_these_names()
+    ensures input_r { form_name input_r ≡ Some (codes "input_r") }
+    ensures output_l { form_name output_l ≡ Some (codes "output_l") }
+    ensures output_r { form_name output_r ≡ Some (codes "output_r") }
+    ensures not_ll { form_name not_ll ≡ Some (codes "not_ll") }
+    ensures not_rr { form_name not_rr ≡ Some (codes "not_rr") }
+{
+}
+
+/// Two inputs and an `and` make a sound grid, whose borders 1, 2 and 4 alone are true where both
+/// inputs are.
+pub fn a_conjunction_is_sound()
+    ensures whole { IsFormGrid conjoined }
+    ensures sound { IsSound conjoined }
+    ensures valuation { IsOnlyBorderValuation conjoined (λ tile. true) conjoined_borders }
+{
+}
+
+/// A wire where an inversion should be computes something else.
+pub fn a_wire_is_no_inversion()
+    ensures { (input output : Text) → Computes wired (three_row_pins input output) (negation input output) → ⊥ }
+{
+}
+
+/// An output that looks to the side on which nothing comes isn't sound.
+pub fn an_averted_output_is_not_sound()
+    ensures { IsSound averted → ⊥ }
+{
+}
+
+/// A column that lacks its last row isn't sound.
+pub fn a_column_cut_short_is_not_sound()
+    ensures { (k : ℕ) → IsSound (cut_short k) → ⊥ }
+{
+}
+
+/// The pins of a column can't be exchanged.
+pub fn exchanged_pins_are_no_pins()
+    ensures { (c : Chain) → ArePins (column (inversions c.statements)) (module_of c) (exchanged_pins c) → ⊥ }
+{
+}

@@ -1,0 +1,9 @@
+use Rattle.bx_engine.proofs.Examples.{conjoined-sound, conjoined-valuation}
+use Rattle.bx_engine.proofs.laws.grids.a_conjunction_is_sound.Goals as goal
+
+pub returns-clause-sound : goal.returns-clause-sound
+returns-clause-sound c = conjoined-sound
+
+pub returns-clause-valuation : goal.returns-clause-valuation
+returns-clause-valuation c = conjoined-valuation
+

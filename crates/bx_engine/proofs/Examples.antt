@@ -1,6 +1,6 @@
 -- The small grids that the laws speak of.
-use Rattle.std.proofs.Common.{◌≡◌, ℕ, zero, suc, ◌+◌, ◌<◌, Bool, true, false, not, List, get_or, Some, None, refl, sym, ◌∙◌, ap, subst, arith, inl, inr}
-use Rattle.std.specs.Prelude.{Option, IsTrue, IsSome, ◌⊎◌, ⊤}
+use Rattle.std.proofs.Common.{◌≡◌, ℕ, zero, suc, ◌+◌, ◌<◌, Bool, true, false, not, get_or, None, refl, sym, ◌∙◌, ap, subst, arith, inl, inr}
+use Rattle.std.specs.Prelude.{IsTrue, IsSome, ◌⊎◌, ⊤}
 use Rattle.std.proofs.lemmas.Bool.{cases_eq}
 use Rattle.std.proofs.lemmas.List.{get_or-take}
 use Rattle.bx_engine.specs.declared.forms.Kind.TheVariants.{Input, Output}
@@ -8,13 +8,13 @@ use Rattle.bx_engine.specs.declared.forms.Side.{Side}
 use Rattle.bx_engine.specs.declared.forms.Side.TheVariants.{Left, Right}
 use Rattle.bx_verilog.specs.Module.{Text}
 use Rattle.bx_engine.specs.Forms.{opposite, shape_holds}
-use Rattle.bx_engine.specs.Tiles.{tile_count, y_of, above, below, border}
-use Rattle.bx_engine.specs.Grids.{FormGrid, shape_in, takes, sends, sends_from, Holds, IsEmpty, IsFormGrid, IsSound, sent, IsBorderValuation, IsOnlyBorderValuation, Computes, given_at}
-use Rattle.bx_engine.specs.Columns.{column, column_form, column_tiles}
+use Rattle.bx_engine.specs.Tiles.{y_of, above, below, border}
+use Rattle.bx_engine.specs.Grids.{shape_in, takes, sends, sends_from, Holds, IsEmpty, IsSound, sent, IsBorderValuation, IsOnlyBorderValuation, Computes}
+use Rattle.bx_engine.specs.Columns.{column, column_tiles}
 use Rattle.bx_engine.specs.Examples.{wired, cut_short, negation, three_row_pins, conjoined, conjoined_borders}
-use Rattle.bx_engine.proofs.Valuations.{made, only-valuation}
+use Rattle.bx_engine.proofs.Valuations.{only-valuation}
 use Rattle.bx_engine.proofs.FormTable.{at-sides}
-use Rattle.bx_engine.proofs.Columns.{tile-column, y_of-column, output-only}
+use Rattle.bx_engine.proofs.Columns.{tile-column, output-only}
 
 -- the numbers below n, one by one, from the greatest
 abbrev pub EachBelow : ℕ → (ℕ → Type 0) → Type 0
@@ -24,7 +24,7 @@ EachBelow (suc n) P = P n × EachBelow n P
 each-below : (n : ℕ) (P : ℕ → Type 0) → EachBelow n P → (t : ℕ) → t < n → P t
 each-below zero P all t h = absurd (omega arith)
 each-below (suc n) P all t h = elim (cases_eq t n) [
-    inl e ↦ subst P (sym e) all.0
+  | inl e ↦ subst P (sym e) all.0
   | inr ne ↦ each-below n P all.1 t (omega arith)
 ]
 
@@ -34,34 +34,34 @@ each-side n P all t side h = at-sides (P t) (each-below n (λ t. P t Left × P t
 conjoined-meets : (t : ℕ) (side : Side) → t < 6 → takes conjoined t side ≡ sends_from conjoined (above conjoined.ratio t side) (opposite side)
 conjoined-meets t side h =
     each-side 6 (λ t side. takes conjoined t side ≡ sends_from conjoined (above conjoined.ratio t side) (opposite side))
-        ((refl, refl), ((refl, refl), ((refl, refl), ((refl, refl), ((refl, refl), ((refl, refl), tt)))))) t side h
+    ((refl, refl), ((refl, refl), ((refl, refl), ((refl, refl), ((refl, refl), ((refl, refl), tt)))))) t side h
 
 conjoined-stays : (t : ℕ) (side : Side) → t < 6 → IsTrue (sends conjoined t side) → IsSome (below conjoined.ratio t side)
 conjoined-stays t side h =
     each-side 6 (λ t side. IsTrue (sends conjoined t side) → IsSome (below conjoined.ratio t side))
-        (((λ e. cc), (λ e. cc)), (((λ e. cc), (λ e. cc)), (((λ e. cc), (λ e. cc)), (((λ e. refl), (λ e. cc)), (((λ e. refl), (λ e. cc)), (((λ e. cc), (λ e. refl)), tt)))))) t side h
+    (((λ e. cc), (λ e. cc)), (((λ e. cc), (λ e. cc)), (((λ e. cc), (λ e. cc)), (((λ e. refl), (λ e. cc)), (((λ e. refl), (λ e. cc)), (((λ e. cc), (λ e. refl)), tt)))))) t side h
 
 pub conjoined-sound : IsSound conjoined
 conjoined-sound = record {
-    meets = conjoined-meets;
-    stays = conjoined-stays;
-    inputs = each-below 6 (λ t. Holds conjoined t Input → y_of conjoined.ratio t ≡ 0)
-        ((λ e. cc), ((λ e. cc), ((λ e. cc), ((λ e. cc), ((λ e. refl), ((λ e. refl), tt))))));
-    outputs = each-below 6 (λ t. Holds conjoined t Output → y_of conjoined.ratio t + 1 ≡ 3)
-        ((λ e. refl), ((λ e. refl), ((λ e. cc), ((λ e. cc), ((λ e. cc), ((λ e. cc), tt))))));
-    first = each-below 6 (λ t. y_of conjoined.ratio t ≡ 0 → IsEmpty conjoined t ⊎ Holds conjoined t Input)
-        ((λ e. inl refl), ((λ e. absurd (omega arith)), ((λ e. inl refl), ((λ e. absurd (omega arith)), ((λ e. inr refl), ((λ e. inr refl), tt))))));
-    last = each-below 6 (λ t. y_of conjoined.ratio t + 1 ≡ 3 → IsEmpty conjoined t ⊎ Holds conjoined t Output)
-        ((λ e. inl refl), ((λ e. inr refl), ((λ e. inl refl), ((λ e. absurd (omega arith)), ((λ e. absurd (omega arith)), ((λ e. absurd (omega arith)), tt))))))
+  meets = conjoined-meets;
+  stays = conjoined-stays;
+  inputs = each-below 6 (λ t. Holds conjoined t Input → y_of conjoined.ratio t ≡ 0)
+      ((λ e. cc), ((λ e. cc), ((λ e. cc), ((λ e. cc), ((λ e. refl), ((λ e. refl), tt))))));
+  outputs = each-below 6 (λ t. Holds conjoined t Output → y_of conjoined.ratio t + 1 ≡ 3)
+      ((λ e. refl), ((λ e. refl), ((λ e. cc), ((λ e. cc), ((λ e. cc), ((λ e. cc), tt))))));
+  first = each-below 6 (λ t. y_of conjoined.ratio t ≡ 0 → IsEmpty conjoined t ⊎ Holds conjoined t Input)
+      ((λ e. inl refl), ((λ e. absurd (omega arith)), ((λ e. inl refl), ((λ e. absurd (omega arith)), ((λ e. inr refl), ((λ e. inr refl), tt))))));
+  last = each-below 6 (λ t. y_of conjoined.ratio t + 1 ≡ 3 → IsEmpty conjoined t ⊎ Holds conjoined t Output)
+      ((λ e. inl refl), ((λ e. inr refl), ((λ e. inl refl), ((λ e. absurd (omega arith)), ((λ e. absurd (omega arith)), ((λ e. absurd (omega arith)), tt))))));
 }
 
 pub conjoined-valuation : IsOnlyBorderValuation conjoined (λ tile. true) conjoined_borders
 conjoined-valuation =
     let given : ℕ → Bool = λ tile. true in
     let is : IsBorderValuation conjoined given conjoined_borders = record {
-        all = refl;
-        each = each-side 6 (λ t side. get_or conjoined_borders (border t side) false ≡ sent conjoined given conjoined_borders t side)
-            ((refl, refl), ((refl, refl), ((refl, refl), ((refl, refl), ((refl, refl), ((refl, refl), tt))))))
+      all = refl;
+      each = each-side 6 (λ t side. get_or conjoined_borders (border t side) false ≡ sent conjoined given conjoined_borders t side)
+          ((refl, refl), ((refl, refl), ((refl, refl), ((refl, refl), ((refl, refl), ((refl, refl), tt))))));
     } in
     let only = only-valuation conjoined given in
     record { is = is; only = λ others o. only.only others o ∙ sym (only.only conjoined_borders is) }
@@ -84,9 +84,9 @@ cut_short-not-sound k s =
     let same : get_or (cut_short k).tiles k None ≡ get_or (column_tiles k) k None = get_or-take (k + 1) (column_tiles k) k None (omega arith) in
     let y : y_of (cut_short k).ratio k ≡ k = omega arith in
     elim (s.last k (omega arith) (omega arith)) [
-        inl e ↦ let here = tile-column k k (omega arith) in cc
+      | inl e ↦ let here = tile-column k k (omega arith) in cc
       | inr o ↦
-            let held : Holds (column k) k Output = sym (ap (λ tile. shape_holds (shape_in tile)) same) ∙ o in
-            let e = output-only k k (omega arith) held in
-            omega arith
+          let held : Holds (column k) k Output = sym (ap (λ tile. shape_holds (shape_in tile)) same) ∙ o in
+          let e = output-only k k (omega arith) held in
+          omega arith
     ]

@@ -5,3 +5,5 @@ pub mod Columns
 pub mod Layouts
 pub mod Examples
 pub mod FormTable
+pub mod Tiles
+pub mod Flow

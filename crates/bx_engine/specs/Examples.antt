@@ -1,5 +1,5 @@
 -- Small grids that the laws speak of: one that is right, and some that are nearly so.
-use Rattle.std.specs.Prelude.{ℕ, ◌+◌, Bool, true, false, List, [], ◌∷◌, Option, Some, None, take}
+use Rattle.std.specs.Prelude.{ℕ, ◌+◌, Bool, true, false, List, [], ◌∷◌, Some, None, take}
 use Rattle.bx_logic.specs.declared.op.Op.TheVariants.{Not}
 use Rattle.bx_verilog.specs.Module.{Text, Module}
 use Rattle.bx_verilog.specs.Chain.{Chain, inversions}
@@ -19,7 +19,7 @@ and_l = 14
 abbrev pub three_rows : ℕ → ℕ → ℕ → FormGrid
 three_rows first second third = record {
   ratio = record { w = 1; h = 3 };
-  tiles = Some first ∷ Some second ∷ Some third ∷ []
+  tiles = Some first ∷ Some second ∷ Some third ∷ [];
 }
 
 -- the column of one inversion, with a wire in its place
@@ -39,20 +39,20 @@ abbrev pub negation : Text → Text → Module
 negation input output = record {
   inputs = input ∷ [];
   outputs = output ∷ [];
-  equations = record { target = output; op = Not; reads = input ∷ [] } ∷ []
+  equations = record { target = output; op = Not; reads = input ∷ [] } ∷ [];
 }
 
 abbrev pub three_row_pins : Text → Text → Pins
 three_row_pins input output = record {
   inputs = record { name = input; tile = 0 } ∷ [];
-  outputs = record { name = output; tile = 2 } ∷ []
+  outputs = record { name = output; tile = 2 } ∷ [];
 }
 
 -- the pins of a chain's column, the tiles exchanged
 abbrev pub exchanged_pins : Chain → Pins
 exchanged_pins c = record {
   inputs = record { name = c.input; tile = inversions c.statements + 1 } ∷ [];
-  outputs = record { name = c.output; tile = 0 } ∷ []
+  outputs = record { name = c.output; tile = 0 } ∷ [];
 }
 
 -- two inputs and an `and`, in two columns of three rows
@@ -60,9 +60,9 @@ abbrev pub conjoined : FormGrid
 conjoined = record {
   ratio = record { w = 2; h = 3 };
   tiles =
-    Some input_r ∷ Some input_l
-    ∷ Some and_l ∷ None
-    ∷ Some output_r ∷ None ∷ []
+      Some input_r ∷ Some input_l
+      ∷ Some and_l ∷ None
+      ∷ Some output_r ∷ None ∷ [];
 }
 
 -- its borders where both inputs are true: 1, 2 and 4

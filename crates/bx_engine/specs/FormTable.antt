@@ -1,6 +1,6 @@
 -- The table of forms read as a person would write it down: a line for each family, with its sides as
 -- letters of the name.
-use Rattle.std.specs.Prelude.{◌≡◌, ℕ, ◌+◌, ◌*◌, Bool, true, false, List, ◌++◌, codes, length, Option, Some, None}
+use Rattle.std.specs.Prelude.{◌≡◌, ℕ, ◌+◌, ◌*◌, true, false, List, ◌++◌, codes, length, Option, Some, None}
 use Rattle.bx_engine.specs.declared.forms.Kind.{Kind}
 use Rattle.bx_engine.specs.declared.forms.Kind.TheVariants as kind
 use Rattle.bx_engine.specs.declared.forms.Side.{Side}

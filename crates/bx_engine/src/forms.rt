@@ -175,3 +175,16 @@ impl Form {
         FORMS[usize::from(self.number)].0
     }
 }
+
+#[cfg(test)]
+mod tests {
+    use super::*;
+    use std::test::Fail;
+
+    #[test]
+    fn a_form_is_printed_by_its_name(rt: HostRuntime) -> Result<(), Fail> {
+        assert_eq!(rt; Form::NOT_RR.name(), "not_rr");
+        assert_eq!(rt; Form::NOT_RR.number(), 11);
+        Ok(())
+    }
+}

@@ -1,16 +1,31 @@
 //! Laws about forms, grids and columns: what the table says of each form, that a grid has one
 //! valuation, that the column of a chain is sound and computes its module, and near misses that the
 //! definitions refuse. Nothing here runs.
-ghost use Rattle.std.specs.Prelude.{◌≡◌, ℕ, Bool, true, List, codes};
+ghost use Rattle.std.specs.Prelude.{◌≡◌, ◌<◌, ℕ, Bool, true, IsTrue, List, codes};
 ghost use Rattle.bx_verilog.specs.Module.{Text};
 ghost use Rattle.bx_verilog.specs.Chain.{Chain, IsChain, inversions, module_of};
-ghost use Rattle.bx_engine.specs.Forms.{form_name};
+ghost use Rattle.bx_engine.specs.declared.grid.Ratio.{Ratio};
+ghost use Rattle.bx_engine.specs.declared.forms.Side.{Side};
+ghost use Rattle.bx_engine.specs.Forms.{form_name, opposite};
+ghost use Rattle.bx_engine.specs.Tiles.{tile_count, below, above};
 ghost use Rattle.bx_engine.specs.FormTable.{IsFormTable};
-ghost use Rattle.bx_engine.specs.Grids.{FormGrid, IsFormGrid, IsSound, IsOnlyBorderValuation, ArePins, Computes};
+ghost use Rattle.bx_engine.specs.Grids.{FormGrid, IsFormGrid, sends, takes, IsSound, IsOnlyBorderValuation, ArePins, Computes};
 ghost use Rattle.bx_engine.specs.Columns.{column, column_pins, input_r, output_l, output_r, not_ll, not_rr};
 ghost use Rattle.bx_engine.specs.Examples.{conjoined, conjoined_borders, wired, averted, cut_short, negation, three_row_pins, exchanged_pins};
 
-/// For any values of its input tiles the borders of a form grid have exactly one valuation.
+/// The tile below on a side and the tile above on the opposite side undo each other.
+pub fn the_tiles_above_and_below_agree()
+    ensures below { (r : Ratio) (t u : ℕ) (side : Side) → below r t side ≡ Some u → above r u (opposite side) ≡ Some t }
+    ensures above { (r : Ratio) (t u : ℕ) (side : Side) → t < tile_count r → above r t side ≡ Some u → below r u (opposite side) ≡ Some t }
+{}
+
+/// What goes out of a tile of a sound grid comes in at the tile below.
+pub fn a_sound_grid_loses_nothing()
+    ensures { (g : FormGrid) → IsSound g → (t : ℕ) (side : Side) → t < tile_count g.ratio → IsTrue (sends g t side) → (u : ℕ) × (below g.ratio t side ≡ Some u) × IsTrue (takes g u (opposite side)) }
+{}
+
+/// For any values of its input tiles the borders of a form grid, sound or not and of any number of
+/// rows, have exactly one valuation.
 pub fn a_grid_has_one_valuation()
     ensures { (g : FormGrid) (given : ℕ → Bool) → (borders : List Bool) × IsOnlyBorderValuation g given borders }
 {}
@@ -35,8 +50,7 @@ pub fn a_column_computes_its_chain()
 /// The table of forms is the one that is described family by family.
 pub fn the_forms_are_as_described()
     ensures { IsFormTable }
-{
-}
+{}
 
 /// The forms of a column are those with these names.
 pub fn a_column_has_forms_of_these_names()
@@ -45,8 +59,7 @@ pub fn a_column_has_forms_of_these_names()
     ensures output_r { form_name output_r ≡ Some (codes "output_r") }
     ensures not_ll { form_name not_ll ≡ Some (codes "not_ll") }
     ensures not_rr { form_name not_rr ≡ Some (codes "not_rr") }
-{
-}
+{}
 
 /// Two inputs and an `and` make a sound grid, whose borders 1, 2 and 4 alone are true where both
 /// inputs are.
@@ -54,29 +67,24 @@ pub fn a_conjunction_is_sound()
     ensures whole { IsFormGrid conjoined }
     ensures sound { IsSound conjoined }
     ensures valuation { IsOnlyBorderValuation conjoined (λ tile. true) conjoined_borders }
-{
-}
+{}
 
 /// A wire where an inversion should be computes something else.
 pub fn a_wire_is_no_inversion()
     ensures { (input output : Text) → Computes wired (three_row_pins input output) (negation input output) → ⊥ }
-{
-}
+{}
 
 /// An output that looks to the side on which nothing comes isn't sound.
 pub fn an_averted_output_is_not_sound()
     ensures { IsSound averted → ⊥ }
-{
-}
+{}
 
 /// A column that lacks its last row isn't sound.
 pub fn a_column_cut_short_is_not_sound()
     ensures { (k : ℕ) → IsSound (cut_short k) → ⊥ }
-{
-}
+{}
 
 /// The pins of a column can't be exchanged.
 pub fn exchanged_pins_are_no_pins()
     ensures { (c : Chain) → ArePins (column (inversions c.statements)) (module_of c) (exchanged_pins c) → ⊥ }
-{
-}
+{}

@@ -3,4 +3,3 @@ use Rattle.bx_engine.proofs.laws.grids.a_column_cut_short_is_not_sound.Goals as 
 
 pub returns : goal.returns
 returns c = cut_short-not-sound
-

@@ -6,4 +6,3 @@ returns-clause-whole c = column-whole
 
 pub returns-clause-sound : goal.returns-clause-sound
 returns-clause-sound c = column-sound
-

@@ -6,4 +6,3 @@ returns-clause-sound c = conjoined-sound
 
 pub returns-clause-valuation : goal.returns-clause-valuation
 returns-clause-valuation c = conjoined-valuation
-

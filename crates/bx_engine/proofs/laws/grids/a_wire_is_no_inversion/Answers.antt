@@ -3,4 +3,3 @@ use Rattle.bx_engine.proofs.laws.grids.a_wire_is_no_inversion.Goals as goal
 
 pub returns : goal.returns
 returns c = wired-computes-no-negation
-

@@ -1,18 +1,19 @@
 -- The small grids that the laws speak of.
 use Rattle.std.proofs.Common.{◌≡◌, ℕ, zero, suc, ◌+◌, ◌<◌, Bool, true, false, not, get_or, None, refl, sym, ◌∙◌, ap, subst, arith, inl, inr}
-use Rattle.std.specs.Prelude.{IsTrue, IsSome, ◌⊎◌, ⊤}
+use Rattle.std.specs.Prelude.{◌&&◌, ◌==◌, ◌≢◌, if◌then◌else◌, List, IsTrue, IsSome, ◌⊎◌, ⊤}
 use Rattle.std.proofs.lemmas.Bool.{cases_eq}
 use Rattle.std.proofs.lemmas.List.{get_or-take}
 use Rattle.bx_engine.specs.declared.forms.Kind.TheVariants.{Input, Output}
 use Rattle.bx_engine.specs.declared.forms.Side.{Side}
 use Rattle.bx_engine.specs.declared.forms.Side.TheVariants.{Left, Right}
-use Rattle.bx_verilog.specs.Module.{Text}
+use Rattle.bx_verilog.specs.Module.{Text, Assignment, Gives}
 use Rattle.bx_engine.specs.Forms.{opposite, shape_holds}
 use Rattle.bx_engine.specs.Tiles.{y_of, above, below, border}
-use Rattle.bx_engine.specs.Grids.{shape_in, takes, sends, sends_from, Holds, IsEmpty, IsSound, sent, IsBorderValuation, IsOnlyBorderValuation, Computes}
+use Rattle.bx_engine.specs.Grids.{shape_in, takes, sends, sends_from, Holds, IsEmpty, IsSound, sent, IsBorderValuation, IsOnlyBorderValuation, Computes, FormGrid, given_at}
 use Rattle.bx_engine.specs.Columns.{column, column_tiles}
-use Rattle.bx_engine.specs.Examples.{wired, cut_short, negation, three_row_pins, conjoined, conjoined_borders}
+use Rattle.bx_engine.specs.Examples.{wired, cut_short, negation, three_row_pins, conjoined, conjoined_borders, conjoined_pins, conjunction_of}
 use Rattle.bx_engine.proofs.Valuations.{only-valuation}
+use Rattle.bx_engine.proofs.Chains.{update, update-same, update-other}
 use Rattle.bx_engine.proofs.FormTable.{at-sides}
 use Rattle.bx_engine.proofs.Columns.{tile-column, output-only}
 
@@ -30,6 +31,11 @@ each-below (suc n) P all t h = elim (cases_eq t n) [
 
 each-side : (n : ℕ) (P : ℕ → Side → Type 0) → EachBelow n (λ t. P t Left × P t Right) → (t : ℕ) (side : Side) → t < n → P t side
 each-side n P all t side h = at-sides (P t) (each-below n (λ t. P t Left × P t Right) all t h) side
+
+and-last : (a b : Bool) → (a && b) ≡ (a && (b && true))
+and-last true true = refl
+and-last true false = refl
+and-last false b = refl
 
 conjoined-meets : (t : ℕ) (side : Side) → t < 6 → takes conjoined t side ≡ sends_from conjoined (above conjoined.ratio t side) (opposite side)
 conjoined-meets t side h =
@@ -55,16 +61,55 @@ conjoined-sound = record {
       ((λ e. inl refl), ((λ e. inr refl), ((λ e. inl refl), ((λ e. absurd (omega arith)), ((λ e. absurd (omega arith)), ((λ e. absurd (omega arith)), tt))))));
 }
 
-pub conjoined-valuation : IsOnlyBorderValuation conjoined (λ tile. true) conjoined_borders
-conjoined-valuation =
-    let given : ℕ → Bool = λ tile. true in
-    let is : IsBorderValuation conjoined given conjoined_borders = record {
-      all = refl;
-      each = each-side 6 (λ t side. get_or conjoined_borders (border t side) false ≡ sent conjoined given conjoined_borders t side)
-          ((refl, refl), ((refl, refl), ((refl, refl), ((refl, refl), ((refl, refl), ((refl, refl), tt))))));
-    } in
-    let only = only-valuation conjoined given in
-    record { is = is; only = λ others o. only.only others o ∙ sym (only.only conjoined_borders is) }
+-- its borders, where the input tiles have the values of a and b
+conjoined-meets_forms : (given : ℕ → Bool) → IsBorderValuation conjoined given (conjoined_borders (given 0) (given 1))
+conjoined-meets_forms given = record {
+  all = refl;
+  each = each-side 6 (λ t side. get_or (conjoined_borders (given 0) (given 1)) (border t side) false ≡ sent conjoined given (conjoined_borders (given 0) (given 1)) t side)
+      ((refl, refl), ((refl, refl), ((refl, refl), ((and-last (given 0) (given 1), refl), ((refl, refl), ((refl, refl), tt))))));
+}
+
+only-this : (g : FormGrid) (given : ℕ → Bool) (bs : List Bool) → IsBorderValuation g given bs → IsOnlyBorderValuation g given bs
+only-this g given bs is =
+    let only = only-valuation g given in
+    record { is = is; only = λ others o. only.only others o ∙ sym (only.only bs is) }
+
+pub conjoined-valuation : (a b : Bool) → IsOnlyBorderValuation conjoined (λ tile. if tile == 0 then a else b) (conjoined_borders a b)
+conjoined-valuation a b =
+    let given : ℕ → Bool = λ tile. if tile == 0 then a else b in
+    only-this conjoined given (conjoined_borders a b) (conjoined-meets_forms given)
+
+conjunction-gives : (one two output : Text) → one ≢ output → two ≢ output → (a : Assignment) →
+    Gives (conjunction_of one two output) a output (a one && a two)
+conjunction-gives one two output ne_one ne_two a =
+    let v : Assignment = update a output (a one && a two) in
+    let first : v one ≡ a one = update-other a output (a one && a two) one (λ e. ne_one (sym e)) in
+    let second : v two ≡ a two = update-other a output (a one && a two) two (λ e. ne_two (sym e)) in
+    record {
+      some = (
+        v,
+        record {
+          inputs = (first, (second, tt));
+          equations = (
+            update-same a output (a one && a two) ∙ and-last (a one) (a two)
+                ∙ ap (λ b. b && (a two && true)) (sym first) ∙ ap (λ b. v one && (b && true)) (sym second),
+            tt,
+          );
+        },
+      );
+      every = λ w is. is.equations.0
+          ∙ ap (λ b. b && (w two && true)) is.inputs.0 ∙ ap (λ b. a one && (b && true)) is.inputs.1.0 ∙ sym (and-last (a one) (a two));
+    }
+
+pub conjoined-computes : (one two output : Text) → one ≢ output → two ≢ output →
+    Computes conjoined (conjoined_pins one two output) (conjunction_of one two output)
+conjoined-computes one two output ne_one ne_two a =
+    let given : ℕ → Bool = given_at (conjoined_pins one two output).inputs a in
+    record {
+      borders = conjoined_borders (a one) (a two);
+      valuation = only-this conjoined given (conjoined_borders (a one) (a two)) (conjoined-meets_forms given);
+      outputs = (conjunction-gives one two output ne_one ne_two a, tt);
+    }
 
 pub wired-computes-no-negation : (input output : Text) → Computes wired (three_row_pins input output) (negation input output) → ⊥
 wired-computes-no-negation input output h =

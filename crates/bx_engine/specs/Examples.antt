@@ -1,6 +1,6 @@
 -- Small grids that the laws speak of: one that is right, and some that are nearly so.
-use Rattle.std.specs.Prelude.{ℕ, ◌+◌, Bool, true, false, List, [], ◌∷◌, Some, None, take}
-use Rattle.bx_logic.specs.declared.op.Op.TheVariants.{Not}
+use Rattle.std.specs.Prelude.{◌&&◌, ℕ, ◌+◌, Bool, false, List, [], ◌∷◌, Some, None, take}
+use Rattle.bx_logic.specs.declared.op.Op.TheVariants.{Not, And}
 use Rattle.bx_verilog.specs.Module.{Text, Module}
 use Rattle.bx_verilog.specs.Chain.{Chain, inversions}
 use Rattle.bx_engine.specs.Grids.{FormGrid, Pins}
@@ -55,19 +55,36 @@ exchanged_pins c = record {
   outputs = record { name = c.output; tile = 0 } ∷ [];
 }
 
--- two inputs and an `and`, in two columns of three rows
-abbrev pub conjoined : FormGrid
-conjoined = record {
+-- two inputs and an `and`, in two columns of three rows, with this output
+abbrev pub conjoined_with : ℕ → FormGrid
+conjoined_with output = record {
   ratio = record { w = 2; h = 3 };
   tiles =
       Some input_r ∷ Some input_l
       ∷ Some and_l ∷ None
-      ∷ Some output_r ∷ None ∷ [];
+      ∷ Some output ∷ None ∷ [];
 }
 
--- its borders where both inputs are true: 1, 2 and 4
-abbrev pub conjoined_borders : List Bool
-conjoined_borders =
-    false ∷ true ∷ true ∷ false
-    ∷ true ∷ false ∷ false ∷ false
+abbrev pub conjoined : FormGrid
+conjoined = conjoined_with output_r
+
+-- its borders where the inputs have these values
+abbrev pub conjoined_borders : Bool → Bool → List Bool
+conjoined_borders a b =
+    false ∷ a ∷ b ∷ false
+    ∷ (a && b) ∷ false ∷ false ∷ false
     ∷ false ∷ false ∷ false ∷ false ∷ []
+
+abbrev pub conjoined_pins : Text → Text → Text → Pins
+conjoined_pins one two output = record {
+  inputs = record { name = one; tile = 0 } ∷ record { name = two; tile = 1 } ∷ [];
+  outputs = record { name = output; tile = 4 } ∷ [];
+}
+
+-- the module of one `and`
+abbrev pub conjunction_of : Text → Text → Text → Module
+conjunction_of one two output = record {
+  inputs = one ∷ two ∷ [];
+  outputs = output ∷ [];
+  equations = record { target = output; op = And; reads = one ∷ two ∷ [] } ∷ [];
+}

@@ -61,6 +61,11 @@ pub record IsSound (g : FormGrid) : Type 0 where
   pub first : (t : ℕ) → t < tile_count g.ratio → y_of g.ratio t ≡ 0 → IsEmpty g t ⊎ Holds g t Input
   pub last : (t : ℕ) → t < tile_count g.ratio → y_of g.ratio t + 1 ≡ g.ratio.h → IsEmpty g t ⊎ Holds g t Output
 
+-- what goes out of a tile comes in at the tile below
+abbrev pub LosesNothing : FormGrid → Type 0
+LosesNothing g = (t : ℕ) (side : Side) → t < tile_count g.ratio → IsTrue (sends g t side) →
+    (u : ℕ) × (below g.ratio t side ≡ Some u) × IsTrue (takes g u (opposite side))
+
 -- the value of a border, false where there is none
 abbrev pub value_of : List Bool → Option ℕ → Bool
 value_of borders None = false

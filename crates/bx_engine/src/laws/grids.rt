@@ -1,7 +1,7 @@
 //! Laws about forms, grids and columns: what the table says of each form, that a grid has one
 //! valuation, that the column of a chain is sound and computes its module, and near misses that the
 //! definitions refuse. Nothing here runs.
-ghost use Rattle.std.specs.Prelude.{◌≡◌, ◌<◌, ℕ, Bool, true, IsTrue, List, codes};
+ghost use Rattle.std.specs.Prelude.{◌≡◌, ◌≢◌, ◌==◌, ◌<◌, ℕ, Bool, true, false, if◌then◌else◌, List, [], ◌∷◌, ◌++◌, replicate, codes};
 ghost use Rattle.bx_verilog.specs.Module.{Text};
 ghost use Rattle.bx_verilog.specs.Chain.{Chain, IsChain, inversions, module_of};
 ghost use Rattle.bx_engine.specs.declared.grid.Ratio.{Ratio};
@@ -9,9 +9,9 @@ ghost use Rattle.bx_engine.specs.declared.forms.Side.{Side};
 ghost use Rattle.bx_engine.specs.Forms.{form_name, opposite};
 ghost use Rattle.bx_engine.specs.Tiles.{tile_count, below, above};
 ghost use Rattle.bx_engine.specs.FormTable.{IsFormTable};
-ghost use Rattle.bx_engine.specs.Grids.{FormGrid, IsFormGrid, sends, takes, IsSound, IsOnlyBorderValuation, ArePins, Computes};
+ghost use Rattle.bx_engine.specs.Grids.{FormGrid, IsFormGrid, IsSound, LosesNothing, reads, IsOnlyBorderValuation, ArePins, Computes};
 ghost use Rattle.bx_engine.specs.Columns.{column, column_pins, input_r, output_l, output_r, not_ll, not_rr};
-ghost use Rattle.bx_engine.specs.Examples.{conjoined, conjoined_borders, wired, averted, cut_short, negation, three_row_pins, exchanged_pins};
+ghost use Rattle.bx_engine.specs.Examples.{conjoined, conjoined_with, conjoined_borders, conjoined_pins, conjunction_of, wired, averted, cut_short, negation, three_row_pins, exchanged_pins};
 
 /// The tile below on a side and the tile above on the opposite side undo each other.
 pub fn the_tiles_above_and_below_agree()
@@ -21,7 +21,7 @@ pub fn the_tiles_above_and_below_agree()
 
 /// What goes out of a tile of a sound grid comes in at the tile below.
 pub fn a_sound_grid_loses_nothing()
-    ensures { (g : FormGrid) → IsSound g → (t : ℕ) (side : Side) → t < tile_count g.ratio → IsTrue (sends g t side) → (u : ℕ) × (below g.ratio t side ≡ Some u) × IsTrue (takes g u (opposite side)) }
+    ensures { (g : FormGrid) → IsSound g → LosesNothing g }
 {}
 
 /// For any values of its input tiles the borders of a form grid, sound or not and of any number of
@@ -61,12 +61,20 @@ pub fn a_column_has_forms_of_these_names()
     ensures not_rr { form_name not_rr ≡ Some (codes "not_rr") }
 {}
 
-/// Two inputs and an `and` make a sound grid, whose borders 1, 2 and 4 alone are true where both
-/// inputs are.
+/// Two inputs and an `and` make a sound grid that computes their conjunction.
 pub fn a_conjunction_is_sound()
     ensures whole { IsFormGrid conjoined }
     ensures sound { IsSound conjoined }
-    ensures valuation { IsOnlyBorderValuation conjoined (λ tile. true) conjoined_borders }
+    ensures valuation { (a b : Bool) → IsOnlyBorderValuation conjoined (λ tile. if tile == 0 then a else b) (conjoined_borders a b) }
+    ensures computes { (one two output : Text) → one ≢ output → two ≢ output → Computes conjoined (conjoined_pins one two output) (conjunction_of one two output) }
+{}
+
+/// Where both inputs are true, borders 1, 2 and 4 alone are, and the output tile reads it. Where the
+/// first alone is true, border 1 alone is.
+pub fn a_conjunction_has_these_values()
+    ensures both { conjoined_borders true true ≡ false ∷ true ∷ true ∷ false ∷ true ∷ replicate 7 false }
+    ensures read { reads conjoined (conjoined_borders true true) 4 ≡ true ∷ [] }
+    ensures one { conjoined_borders true false ≡ false ∷ true ∷ replicate 10 false }
 {}
 
 /// A wire where an inversion should be computes something else.
@@ -76,7 +84,8 @@ pub fn a_wire_is_no_inversion()
 
 /// An output that looks to the side on which nothing comes isn't sound.
 pub fn an_averted_output_is_not_sound()
-    ensures { IsSound averted → ⊥ }
+    ensures column { IsSound averted → ⊥ }
+    ensures conjunction { IsSound (conjoined_with output_l) → ⊥ }
 {}
 
 /// A column that lacks its last row isn't sound.

@@ -56,10 +56,10 @@ abbrev pub extend : Assignment → List Statement → Assignment
 extend v [] = v
 extend v (s ∷ ss) = extend (update v s.target (op_value s.op (v s.source ∷ []))) ss
 
-update-same : (v : Assignment) (x : Text) (b : Bool) → update v x b x ≡ b
+pub update-same : (v : Assignment) (x : Text) (b : Bool) → update v x b x ≡ b
 update-same v x b = ap (λ t. if t then b else v x) ((bytes_eq-Decides x x).1 refl)
 
-update-other : (v : Assignment) (x : Text) (b : Bool) (net : Text) → x ≢ net → update v x b net ≡ v net
+pub update-other : (v : Assignment) (x : Text) (b : Bool) (net : Text) → x ≢ net → update v x b net ≡ v net
 update-other v x b net ne = ap (λ t. if t then b else v net) (false_from_ne_true (bytes_eq net x) (λ e. ne (sym ((bytes_eq-Decides net x).0 e))))
 
 extend-keeps : (v : Assignment) (ss : List Statement) (net : Text) → AllByRecursion (λ y. y ≢ net) (targets ss) → extend v ss net ≡ v net

@@ -1,9 +1,10 @@
 -- The column of k inversions is sound, and its output tile reads the value of its input tile, negated
 -- k times. Each tile but the first takes, and each but the last sends, on the side that its row has.
-use Rattle.std.proofs.Common.{◌≡◌, ℕ, zero, suc, ◌+◌, ◌*◌, ◌%◌, ◌<◌, ◌≤◌, Bool, true, false, not, List, [], ◌∷◌, get_or, Some, None, refl, sym, ◌∙◌, ap, subst, arith, inl, inr}
-use Rattle.std.specs.Prelude.{Option, if◌then◌else◌, ◌⊎◌, option_map, IsTrue, IsSome}
-use Rattle.std.proofs.lemmas.Bool.{cases_Bool, cases_lt, cases_eq, eqb-true, eqb-false, ne_eqb, eq-eqb, le-leb, lt-leb, lt-ltb}
-use Rattle.std.proofs.lemmas.List.FromFn.{get_or-map-range_with_len}
+use Rattle.std.proofs.Common.{◌≡◌, ℕ, zero, suc, ◌+◌, ◌*◌, ◌<◌, ◌≤◌, Bool, true, false, not, List, [], ◌∷◌, length, get_or, Some, None, refl, sym, ◌∙◌, ap, subst, arith, inl, inr}
+use Rattle.std.specs.Prelude.{Option, if◌then◌else◌, nat_le, ◌==◌, ◌⊎◌, option_map, IsTrue, IsSome}
+use Rattle.std.proofs.lemmas.Bool.{cases_lt, cases_eq, ne_eqb, le-leb, lt-leb, lt-ltb}
+use Rattle.std.proofs.lemmas.List.FromFn.{get_or-map-range_with_len, length-map-range_with_len}
+use Rattle.std.proofs.lemmas.List.{get_or_past}
 use Rattle.bx_logic.specs.Op.{first_value}
 use Rattle.bx_engine.specs.declared.grid.Ratio.{Ratio}
 use Rattle.bx_engine.specs.declared.forms.Kind.TheVariants.{Input, Output, Not}
@@ -12,20 +13,15 @@ use Rattle.bx_engine.specs.declared.forms.Side.TheVariants.{Left, Right}
 use Rattle.bx_engine.specs.declared.forms.Shape.{Shape}
 use Rattle.bx_engine.specs.Forms.{opposite, shape_of, shape_takes, shape_sends, shape_holds}
 use Rattle.bx_engine.specs.Tiles.{x_of, y_of, is_odd, before, column_beside, tile_at, above, below, border, entering}
-use Rattle.bx_engine.specs.Grids.{FormGrid, shape_in, shape_at, takes, sends, sends_from, Holds, IsSound, value_of, reads, shape_value, sent, IsBorderValuation}
-use Rattle.bx_engine.specs.Columns.{column, column_form, input_r, output_l, output_r, not_ll, not_rr}
+use Rattle.bx_engine.specs.Grids.{FormGrid, shape_in, shape_at, takes, sends, sends_from, Holds, IsFormGrid, IsSound, value_of, reads, shape_value, sent, IsBorderValuation}
+use Rattle.bx_engine.specs.Columns.{column, column_form, column_tiles, input_r, output_l, output_r, not_ll, not_rr}
+use Rattle.bx_engine.proofs.Tiles.{is_odd-suc}
 use Rattle.bx_engine.proofs.Chains.{flips}
 
 -- the side on which an odd row goes on, and an even one
 abbrev pub way : Bool → Side
 way true = Left
 way false = Right
-
-is_odd-suc : (t : ℕ) → is_odd (suc t) ≡ not (is_odd t)
-is_odd-suc t = elim (cases_Bool (is_odd t)) [
-  | inl e ↦ let odd = eqb-true (t % 2) 1 e in ne_eqb (suc t % 2) 1 (λ q. omega arith) ∙ ap not (sym e)
-  | inr e ↦ let even = eqb-false (t % 2) 1 e in eq-eqb (suc t % 2) 1 (omega arith) ∙ ap not (sym e)
-]
 
 opposite-way : (b : Bool) → opposite (way (not b)) ≡ way b
 opposite-way true = refl
@@ -262,3 +258,36 @@ pub output-value : (k t : ℕ) (given : ℕ → Bool) (bs : List Bool) → t ≡
 output-value k t given bs e v =
     let last : t ≡ suc k = omega arith in
     ap (λ n. first_value (reads (column k) bs n)) last ∙ ap first_value (reads-column k k bs (omega arith)) ∙ border-value k given bs v k (omega arith)
+
+-- it is a form grid
+
+if-less : (b : Bool) (m n : ℕ) → m < 28 → n < 28 → (if b then m else n) < 28
+if-less true m n g h = g
+if-less false m n g h = h
+
+column_form-less : (k y : ℕ) → column_form k y < 28
+column_form-less k y =
+    if-less (y == 0) input_r _ (omega arith) (if-less (nat_le y k) _ _
+    (if-less (is_odd y) not_ll not_rr (omega arith) (omega arith))
+    (if-less (is_odd y) output_l output_r (omega arith) (omega arith)))
+
+length-column : (k : ℕ) → length (column_tiles k) ≡ k + 2
+length-column k = length-map-range_with_len (λ y. Some (column_form k y)) 0 (k + 2)
+
+pub tile-column : (k t : ℕ) → t < k + 2 → get_or (column_tiles k) t None ≡ Some (column_form k t)
+tile-column k t h = get_or-map-range_with_len (λ y. Some (column_form k y)) 0 (k + 2) t t None h (omega arith)
+
+pub column-whole : (k : ℕ) → IsFormGrid (column k)
+column-whole k = record {
+  whole = let e = length-column k in omega arith;
+  forms = λ t form e. elim (cases_lt t (k + 2)) [
+    | inl l ↦
+        let here = tile-column k t l in
+        let same : column_form k t ≡ form = cc in
+        let less = column_form-less k t in
+        omega arith
+    | inr g ↦
+        let none = get_or_past (column_tiles k) t None (let n = length-column k in omega arith) in
+        cc
+  ];
+}

@@ -11,3 +11,7 @@ pub mod Orders
 pub mod Saying
 pub mod Joined
 pub mod Lines
+pub mod Examples
+pub mod FormTable
+pub mod Tiles
+pub mod Flow

@@ -1,38 +1,19 @@
 -- The borders of any form grid have exactly one valuation: what goes out of a tile is determined by
 -- the borders of lower number, so the values are made tile by tile.
-use Rattle.std.proofs.Common.{◌≡◌, ℕ, zero, suc, ◌+◌, ◌*◌, ◌<◌, ◌≤◌, Bool, true, false, List, [], ◌∷◌, ◌++◌, length, get_or, Some, None, refl, sym, ◌∙◌, ap, subst, arith, inl, inr, length-append}
-use Rattle.std.specs.Prelude.{Option, if◌then◌else◌, nat_lt, ◌&&◌, option_map}
-use Rattle.std.proofs.lemmas.Bool.{ltb-true, and_parts, cases_lt, cases_eq}
+use Rattle.std.proofs.Common.{◌≡◌, ℕ, zero, suc, ◌+◌, ◌*◌, ◌<◌, ◌≤◌, Bool, false, List, [], ◌∷◌, ◌++◌, length, get_or, Some, None, refl, sym, ◌∙◌, ap, subst, arith, inl, inr, length-append}
+use Rattle.std.specs.Prelude.{Option, if◌then◌else◌, option_map}
+use Rattle.std.proofs.lemmas.Bool.{cases_lt, cases_eq}
 use Rattle.std.proofs.lemmas.List.{ext_get_or, get_or_append_left, get_or-append-add}
-use Rattle.std.proofs.lemmas.Nat.{div-add-mod'}
-use Rattle.bx_engine.specs.declared.grid.Ratio.{Ratio}
 use Rattle.bx_engine.specs.declared.forms.Side.{Side}
 use Rattle.bx_engine.specs.declared.forms.Side.TheVariants.{Left, Right}
 use Rattle.bx_engine.specs.Forms.{opposite}
-use Rattle.bx_engine.specs.Tiles.{tile_count, x_of, y_of, is_odd, before, column_beside, tile_at, above, border, entering}
+use Rattle.bx_engine.specs.Tiles.{tile_count, above, border, entering}
 use Rattle.bx_engine.specs.Grids.{FormGrid, shape_at, sends, value_of, reads, shape_value, sent, IsBorderValuation, IsOnlyBorderValuation}
+use Rattle.bx_engine.proofs.Tiles.{above-less}
 
 -- the two lists have the same first n values
 abbrev pub AgreeBelow : ℕ → List Bool → List Bool → Type 0
 AgreeBelow n bs cs = (j : ℕ) → j < n → get_or bs j false ≡ get_or cs j false
-
-if_some : (b : Bool) (v u : ℕ) → (if b then Some v else None) ≡ Some u → (b ≡ true) × (v ≡ u)
-if_some true v u e = (refl, cc)
-if_some false v u e = cc
-
-tile_at-less : (r : Ratio) (x : Option ℕ) (y u : ℕ) → tile_at r x (before y) ≡ Some u → u < y * r.w
-tile_at-less r None y u e = cc
-tile_at-less r (Some x) zero u e = cc
-tile_at-less r (Some x) (suc y) u e =
-    let both = if_some (nat_lt x r.w && nat_lt y r.h) (y * r.w + x) u e in
-    let tests = and_parts (nat_lt x r.w) (nat_lt y r.h) both.0 in
-    let h : x < r.w = ltb-true x r.w tests.0 in
-    omega (arith, h, both.1)
-
-above-less : (r : Ratio) (t u : ℕ) (side : Side) → above r t side ≡ Some u → u < t
-above-less r t u side e =
-    let h = tile_at-less r (column_beside (is_odd (y_of r t)) side (x_of r t)) (y_of r t) u e in
-    omega (arith, h, div-add-mod' t r.w)
 
 border-less : (u t : ℕ) (side : Side) → u < t → border u side < 2 * t
 border-less u t Left h = omega arith

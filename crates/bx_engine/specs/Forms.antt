@@ -47,7 +47,8 @@ abbrev pub second_value : List Bool → Bool
 second_value [] = false
 second_value (b ∷ bs) = first_value bs
 
--- what goes out on a lower side, for a given value and the values that come in on the used upper sides, from left to right
+-- what goes out on a lower side, for a given value and the values that come in on the used upper
+-- sides, from left to right
 abbrev pub function_value : Function → Bool → List Bool → Side → Bool
 function_value Given given reads side = given
 function_value Read given reads side = false

@@ -20,7 +20,17 @@ pub record FormGrid : Type 0 where
 -- there are w * h tiles, and each form is one of the 28
 pub record IsFormGrid (g : FormGrid) : Type 0 where
   pub whole : length g.tiles ≡ tile_count g.ratio
-  pub forms : AllByRecursion (λ tile. (form : ℕ) → tile ≡ Some form → form < 28) g.tiles
+  pub forms : (t form : ℕ) → slice_index_or g.tiles t None ≡ Some form → form < 28
+
+-- the number is that of a tile, and the tile stands in the first or last row
+abbrev pub IsTile : FormGrid → ℕ → Type 0
+IsTile g t = t < tile_count g.ratio
+
+abbrev pub IsInFirstRow : FormGrid → ℕ → Type 0
+IsInFirstRow g t = y_of g.ratio t ≡ 0
+
+abbrev pub IsInLastRow : FormGrid → ℕ → Type 0
+IsInLastRow g t = y_of g.ratio t + 1 ≡ g.ratio.h
 
 abbrev pub shape_in : Option ℕ → Option Shape
 shape_in None = None
@@ -51,15 +61,20 @@ IsEmpty g t = slice_index_or g.tiles t None ≡ None
 
 pub record IsSound (g : FormGrid) : Type 0 where
   -- a tile takes on exactly those upper sides on which the tile above goes out
-  pub meets : (t : ℕ) (side : Side) → t < tile_count g.ratio → takes g t side ≡ sends_from g (above g.ratio t side) (opposite side)
+  pub meets : (t : ℕ) (side : Side) → IsTile g t → takes g t side ≡ sends_from g (above g.ratio t side) (opposite side)
   -- nothing leads off the grid
-  pub stays : (t : ℕ) (side : Side) → t < tile_count g.ratio → IsTrue (sends g t side) → IsSome (below g.ratio t side)
+  pub stays : (t : ℕ) (side : Side) → IsTile g t → IsTrue (sends g t side) → IsSome (below g.ratio t side)
   -- input forms stand in the first row only, and output forms in the last
-  pub inputs : (t : ℕ) → t < tile_count g.ratio → Holds g t Input → y_of g.ratio t ≡ 0
-  pub outputs : (t : ℕ) → t < tile_count g.ratio → Holds g t Output → y_of g.ratio t + 1 ≡ g.ratio.h
+  pub inputs : (t : ℕ) → IsTile g t → Holds g t Input → IsInFirstRow g t
+  pub outputs : (t : ℕ) → IsTile g t → Holds g t Output → IsInLastRow g t
   -- nothing else stands there
-  pub first : (t : ℕ) → t < tile_count g.ratio → y_of g.ratio t ≡ 0 → IsEmpty g t ⊎ Holds g t Input
-  pub last : (t : ℕ) → t < tile_count g.ratio → y_of g.ratio t + 1 ≡ g.ratio.h → IsEmpty g t ⊎ Holds g t Output
+  pub first : (t : ℕ) → IsTile g t → IsInFirstRow g t → IsEmpty g t ⊎ Holds g t Input
+  pub last : (t : ℕ) → IsTile g t → IsInLastRow g t → IsEmpty g t ⊎ Holds g t Output
+
+-- what goes out of a tile comes in at the tile below
+abbrev pub LosesNothing : FormGrid → Type 0
+LosesNothing g = (t : ℕ) (side : Side) → IsTile g t → IsTrue (sends g t side) →
+    (u : ℕ) × (below g.ratio t side ≡ Some u) × IsTrue (takes g u (opposite side))
 
 -- the value of a border, false where there is none
 abbrev pub value_of : List Bool → Option ℕ → Bool
@@ -80,10 +95,11 @@ shape_value (Some shape) given values side = function_value shape.function given
 abbrev pub sent : FormGrid → (ℕ → Bool) → List Bool → ℕ → Side → Bool
 sent g given borders t side = if sends g t side then shape_value (shape_at g t) (given t) (reads g borders t) side else false
 
--- the values of all borders, by the equations of the tiles: each lower side has what goes out there. An input tile has its given value
+-- the values of all borders, by the equations of the tiles: each lower side has what goes out there,
+-- which for an input form is its given value
 pub record IsBorderValuation (g : FormGrid) (given : ℕ → Bool) (borders : List Bool) : Type 0 where
   pub all : length borders ≡ 2 * tile_count g.ratio
-  pub each : (t : ℕ) (side : Side) → t < tile_count g.ratio → slice_index_or borders (border t side) false ≡ sent g given borders t side
+  pub each : (t : ℕ) (side : Side) → IsTile g t → slice_index_or borders (border t side) false ≡ sent g given borders t side
 
 -- there is one valuation, and no other
 pub record IsOnlyBorderValuation (g : FormGrid) (given : ℕ → Bool) (borders : List Bool) : Type 0 where
@@ -121,19 +137,20 @@ pub record ArePins (g : FormGrid) (m : Module) (pins : Pins) : Type 0 where
   pub known : (input : Text) → Contains (pin_names pins.inputs) input → Contains m.inputs input × IsUsed m input
   pub once : AreDifferent (pin_names pins.inputs)
   pub outputs : pin_names pins.outputs ≡ m.outputs
-  pub first : AllByRecursion (λ t. (t < tile_count g.ratio) × (y_of g.ratio t ≡ 0) × Holds g t Input) (pin_tiles pins.inputs)
-  pub last : AllByRecursion (λ t. (t < tile_count g.ratio) × (y_of g.ratio t + 1 ≡ g.ratio.h) × Holds g t Output) (pin_tiles pins.outputs)
+  pub first : AllByRecursion (λ t. IsTile g t × IsInFirstRow g t × Holds g t Input) (pin_tiles pins.inputs)
+  pub last : AllByRecursion (λ t. IsTile g t × IsInLastRow g t × Holds g t Output) (pin_tiles pins.outputs)
   pub apart : AreDifferent (pin_tiles pins.inputs ++ pin_tiles pins.outputs)
   -- no other tile holds an input or an output form
-  pub no_more_inputs : (t : ℕ) → t < tile_count g.ratio → Holds g t Input → Contains (pin_tiles pins.inputs) t
-  pub no_more_outputs : (t : ℕ) → t < tile_count g.ratio → Holds g t Output → Contains (pin_tiles pins.outputs) t
+  pub no_more_inputs : (t : ℕ) → IsTile g t → Holds g t Input → Contains (pin_tiles pins.inputs) t
+  pub no_more_outputs : (t : ℕ) → IsTile g t → Holds g t Output → Contains (pin_tiles pins.outputs) t
 
 -- the value of the input whose pin is this tile
 abbrev pub given_at : List Pin → Assignment → ℕ → Bool
 given_at [] a t = false
 given_at (pin ∷ pins) a t = if t == pin.tile then a pin.name else given_at pins a t
 
--- for these values of the inputs the borders have one valuation, and each output tile reads the value that the module gives its output
+-- for these values of the inputs the borders have one valuation, and each output tile reads the value
+-- that the module gives its output
 pub record ComputesFor (g : FormGrid) (pins : Pins) (m : Module) (a : Assignment) : Type 0 where
   pub borders : List Bool
   pub valuation : IsOnlyBorderValuation g (given_at pins.inputs a) borders

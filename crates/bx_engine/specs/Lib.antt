@@ -15,3 +15,5 @@ pub mod Runs
 pub mod Rows
 pub mod Reports
 pub mod Endings
+pub mod FormTable
+pub mod Examples

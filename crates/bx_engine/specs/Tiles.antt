@@ -25,7 +25,8 @@ abbrev pub before : ℕ → Option ℕ
 before zero = None
 before (suc n) = Some n
 
--- the column of the tile that stands on this side of column x, in the rows below and above an odd row or an even one
+-- the column of the tile that stands on this side of column x, in the rows below and above an odd row
+-- or an even one
 abbrev pub column_beside : Bool → Side → ℕ → Option ℕ
 column_beside false Left x = before x
 column_beside false Right x = Some x

@@ -48,3 +48,20 @@ fn form_of_row(inversions: u32, y: u32) -> Form
         Form::OUTPUT_R
     }
 }
+
+#[cfg(test)]
+mod tests {
+    use super::*;
+    use std::test::Fail;
+
+    #[test]
+    fn two_inversions_take_four_rows(rt: HostRuntime) -> Result<(), Fail> {
+        let grid = column(rt.alloc(), 2)?;
+        assert_eq!(rt; grid.ratio(), Ratio { w: 1, h: 4 });
+        assert_eq!(rt; grid.tile(0), Some(Form::INPUT_R));
+        assert_eq!(rt; grid.tile(1), Some(Form::NOT_LL));
+        assert_eq!(rt; grid.tile(2), Some(Form::NOT_RR));
+        assert_eq!(rt; grid.tile(3), Some(Form::OUTPUT_L));
+        Ok(())
+    }
+}

@@ -151,14 +151,19 @@ impl Model for Form {
 }
 
 impl Form {
+    /// An input that goes on to the lower right.
     pub const INPUT_R: Form = Form { number: 1 };
 
+    /// An output that reads from the upper left.
     pub const OUTPUT_L: Form = Form { number: 2 };
 
+    /// An output that reads from the upper right.
     pub const OUTPUT_R: Form = Form { number: 3 };
 
+    /// A negation from the upper left to the lower left.
     pub const NOT_LL: Form = Form { number: 8 };
 
+    /// A negation from the upper right to the lower right.
     pub const NOT_RR: Form = Form { number: 11 };
 
     /// The number of the form in the table.
@@ -173,5 +178,18 @@ impl Form {
         ensures { Some result.now ≡ form_name self }
     {
         FORMS[usize::from(self.number)].0
+    }
+}
+
+#[cfg(test)]
+mod tests {
+    use super::*;
+    use std::test::Fail;
+
+    #[test]
+    fn a_form_is_printed_by_its_name(rt: HostRuntime) -> Result<(), Fail> {
+        assert_eq!(rt; Form::NOT_RR.name(), "not_rr");
+        assert_eq!(rt; Form::NOT_RR.number(), 11);
+        Ok(())
     }
 }

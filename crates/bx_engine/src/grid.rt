@@ -1,5 +1,7 @@
 //! Ratios of a hexagonal grid, and the limits within which they are searched. Rows run from the
-//! inputs down to the outputs, and a signal goes only from a row to the next.
+//! inputs down to the outputs, and a signal goes only from a row to the next. A form grid holds a form
+//! or nothing on each tile, and promises no more than that: whether it is sound, and what it computes,
+//! is for the definitions to say.
 ghost use Rattle.std.specs.Prelude.{◌≡◌, ◌<◌, vec_len, slice_index_or};
 ghost use Rattle.bx_engine.specs.Tiles.{tile_count};
 
@@ -64,6 +66,7 @@ impl FormGrid {
         FormGrid { ratio, tiles }
     }
 
+    /// How many tiles stand in a row, and how many rows there are.
     pub fn ratio(&self) -> Ratio
         ensures { result ≡ self.now.ratio }
     {

@@ -2,11 +2,11 @@
 #![tactic(auto)]
 
 pub mod column;
+mod engine;
 pub mod forms;
 pub mod grid;
 pub mod laws;
 mod report;
-mod engine;
 mod say;
 mod status;
 

@@ -1,19 +1,39 @@
 //! Laws about forms, grids and columns: what the table says of each form, that a grid has one
 //! valuation, that the column of a chain is sound and computes its module, and near misses that the
 //! definitions refuse. Nothing here runs.
-ghost use Rattle.std.specs.Prelude.{ℕ, Bool, List};
+ghost use Rattle.std.specs.Prelude.{◌≡◌, ◌≢◌, ◌==◌, ◌<◌, ℕ, Bool, true, false, if◌then◌else◌, List, [], ◌∷◌, ◌++◌, replicate, codes};
+ghost use Rattle.bx_verilog.specs.Module.{Text};
 ghost use Rattle.bx_verilog.specs.Chain.{Chain, IsChain, inversions, module_of};
-ghost use Rattle.bx_engine.specs.Grids.{FormGrid, IsSound, IsOnlyBorderValuation, ArePins, Computes};
-ghost use Rattle.bx_engine.specs.Columns.{column, column_pins};
+ghost use Rattle.bx_engine.specs.declared.grid.Ratio.{Ratio};
+ghost use Rattle.bx_engine.specs.declared.forms.Side.{Side};
+ghost use Rattle.bx_engine.specs.Forms.{form_name, opposite};
+ghost use Rattle.bx_engine.specs.Tiles.{tile_count, below, above};
+ghost use Rattle.bx_engine.specs.FormTable.{IsFormTable};
+ghost use Rattle.bx_engine.specs.Grids.{FormGrid, IsFormGrid, IsSound, LosesNothing, reads, IsOnlyBorderValuation, ArePins, Computes};
+ghost use Rattle.bx_engine.specs.Columns.{column, column_pins, input_r, output_l, output_r, not_ll, not_rr};
+ghost use Rattle.bx_engine.specs.Examples.{conjoined, conjoined_with, conjoined_borders, conjoined_pins, conjunction_of, wired, averted, cut_short, negation, three_row_pins, exchanged_pins};
 
-/// For any values of its input tiles the borders of a form grid have exactly one valuation.
+/// The tile below on a side and the tile above on the opposite side undo each other.
+pub fn the_tiles_above_and_below_agree()
+    ensures below { (r : Ratio) (t u : ℕ) (side : Side) → below r t side ≡ Some u → above r u (opposite side) ≡ Some t }
+    ensures above { (r : Ratio) (t u : ℕ) (side : Side) → t < tile_count r → above r t side ≡ Some u → below r u (opposite side) ≡ Some t }
+{}
+
+/// What goes out of a tile of a sound grid comes in at the tile below.
+pub fn a_sound_grid_loses_nothing()
+    ensures { (g : FormGrid) → IsSound g → LosesNothing g }
+{}
+
+/// For any values of its input tiles the borders of a form grid, sound or not and of any number of
+/// rows, have exactly one valuation.
 pub fn a_grid_has_one_valuation()
     ensures { (g : FormGrid) (given : ℕ → Bool) → (borders : List Bool) × IsOnlyBorderValuation g given borders }
 {}
 
-/// The column of any number of inversions is sound.
+/// The column of any number of inversions is a form grid, and sound.
 pub fn a_column_is_sound()
-    ensures { (k : ℕ) → IsSound (column k) }
+    ensures whole { (k : ℕ) → IsFormGrid (column k) }
+    ensures sound { (k : ℕ) → IsSound (column k) }
 {}
 
 /// The first tile of a chain's column stands for its input, the last for its output, and no other
@@ -25,4 +45,55 @@ pub fn a_column_has_its_pins()
 /// The column of a chain computes the module of the chain.
 pub fn a_column_computes_its_chain()
     ensures { (c : Chain) → IsChain c → Computes (column (inversions c.statements)) (column_pins c) (module_of c) }
+{}
+
+/// The table of forms is the one that is described family by family.
+pub fn the_forms_are_as_described()
+    ensures { IsFormTable }
+{}
+
+/// The forms of a column are those with these names.
+pub fn a_column_has_forms_of_these_names()
+    ensures input_r { form_name input_r ≡ Some (codes "input_r") }
+    ensures output_l { form_name output_l ≡ Some (codes "output_l") }
+    ensures output_r { form_name output_r ≡ Some (codes "output_r") }
+    ensures not_ll { form_name not_ll ≡ Some (codes "not_ll") }
+    ensures not_rr { form_name not_rr ≡ Some (codes "not_rr") }
+{}
+
+/// Two inputs and an `and` make a sound grid that computes their conjunction.
+pub fn a_conjunction_is_sound()
+    ensures whole { IsFormGrid conjoined }
+    ensures sound { IsSound conjoined }
+    ensures valuation { (a b : Bool) → IsOnlyBorderValuation conjoined (λ tile. if tile == 0 then a else b) (conjoined_borders a b) }
+    ensures computes { (one two output : Text) → one ≢ output → two ≢ output → Computes conjoined (conjoined_pins one two output) (conjunction_of one two output) }
+{}
+
+/// Where both inputs are true, borders 1, 2 and 4 alone are, and the output tile reads it. Where the
+/// first alone is true, border 1 alone is.
+pub fn a_conjunction_has_these_values()
+    ensures both { conjoined_borders true true ≡ false ∷ true ∷ true ∷ false ∷ true ∷ replicate 7 false }
+    ensures read { reads conjoined (conjoined_borders true true) 4 ≡ true ∷ [] }
+    ensures one { conjoined_borders true false ≡ false ∷ true ∷ replicate 10 false }
+{}
+
+/// A wire where an inversion should be computes something else.
+pub fn a_wire_is_no_inversion()
+    ensures { (input output : Text) → Computes wired (three_row_pins input output) (negation input output) → ⊥ }
+{}
+
+/// An output that looks to the side on which nothing comes isn't sound.
+pub fn an_averted_output_is_not_sound()
+    ensures column { IsSound averted → ⊥ }
+    ensures conjunction { IsSound (conjoined_with output_l) → ⊥ }
+{}
+
+/// A column that lacks its last row isn't sound.
+pub fn a_column_cut_short_is_not_sound()
+    ensures { (k : ℕ) → IsSound (cut_short k) → ⊥ }
+{}
+
+/// The pins of a column can't be exchanged.
+pub fn exchanged_pins_are_no_pins()
+    ensures { (c : Chain) → ArePins (column (inversions c.statements)) (module_of c) (exchanged_pins c) → ⊥ }
 {}

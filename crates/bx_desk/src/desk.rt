@@ -97,3 +97,26 @@ pub trait Desk {
         ensures counts { SayCounts (faults self.old) (faults self.new) }
         ensures files_stay { files self.new ≡ files self.old };
 }
+
+#[cfg(test)]
+mod tests {
+    use super::*;
+    use std::test::Fail;
+
+    #[test]
+    fn messages(rt: HostRuntime) -> Result<(), Fail> {
+        let rows = [
+            (LoadFault::Failed, "the file could not be read"),
+            (LoadFault::TooLong, "the file is too long"),
+            (LoadFault::NoMemory, "out of memory"),
+        ];
+        for (fault, message) in rows {
+            assert_eq!(rt; format!(in rt.alloc(); "{fault}")?.as_str(), message);
+        }
+        assert_eq!(rt;
+            format!(in rt.alloc(); "{Failed}")?.as_str(),
+            "the desk failed"
+        );
+        Ok(())
+    }
+}

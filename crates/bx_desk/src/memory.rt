@@ -257,3 +257,72 @@ impl Desk for MemDesk {
         }
     }
 }
+
+#[cfg(test)]
+mod tests {
+    use super::*;
+    use std::test::Fail;
+
+    // A desk with the file "a" of five bytes and an empty file.
+    fn filled(alloc: Global) -> Result<MemDesk, NoMemory> {
+        let mut desk = MemDesk::new(alloc);
+        desk.put("a", b"abcde")?;
+        desk.put("empty", b"")?;
+        Ok(desk)
+    }
+
+    // Each row is one call, numbered from 1, and the third is to fail.
+    #[test]
+    fn loads(rt: HostRuntime) -> Result<(), Fail> {
+        let mut desk = filled(rt.alloc())?;
+        desk.fail_at(3, 2)?;
+        let rows = [
+            ("within its limit", "a", u64::MAX, Ok(()), "abcde"),
+            ("at its limit", "a", 5, Ok(()), "abcde"),
+            ("planned to fail", "a", 9, Err(LoadFault::Failed), ""),
+            (
+                "one past its limit",
+                "a",
+                4,
+                Err(LoadFault::TooLong),
+                "abcde",
+            ),
+            ("far past its limit", "a", 1, Err(LoadFault::TooLong), "ab"),
+            ("not there", "b", 9, Err(LoadFault::Failed), ""),
+            ("empty", "empty", 0, Ok(()), ""),
+        ];
+        for (case, name, limit, answer, left) in rows {
+            let mut into = Vec::new(rt.alloc());
+            assert_eq!(rt; desk.load(name, limit, &mut into), answer, "{case}");
+            assert_eq!(rt; into.as_slice(), left.as_bytes(), "{case}");
+        }
+        assert_eq!(rt; desk.file("a"), Some(b"abcde".as_slice()));
+        assert_eq!(rt; desk.file("b"), None);
+        Ok(())
+    }
+
+    // The load before it is call 1, so the say of each row is call 2.
+    #[test]
+    fn says(rt: HostRuntime) -> Result<(), Fail> {
+        let rows = [
+            ("room for all", 3, None, Ok(()), "abc"),
+            ("room lacking", 2, None, Err(Failed), ""),
+            ("kept below the length", 9, Some(1), Err(Failed), "a"),
+            ("kept at the length", 9, Some(3), Err(Failed), "abc"),
+            ("kept above the length", 9, Some(4), Err(Failed), "abc"),
+            ("kept above the room", 2, Some(3), Err(Failed), "ab"),
+        ];
+        for (case, room, kept, answer, said) in rows {
+            let mut desk = filled(rt.alloc())?;
+            desk.say_room(room)?;
+            if let Some(kept) = kept {
+                desk.fail_at(2, kept)?;
+                desk.fail_at(2, 0)?;
+            }
+            desk.load("a", 9, &mut Vec::new(rt.alloc()))?;
+            assert_eq!(rt; desk.say(b"abc"), answer, "{case}");
+            assert_eq!(rt; desk.said(), said.as_bytes(), "{case}");
+        }
+        Ok(())
+    }
+}

@@ -90,3 +90,61 @@ impl Piece {
         Ok(())
     }
 }
+
+#[cfg(test)]
+mod tests {
+    use super::*;
+    use crate::MemDesk;
+    use std::alloc::Global;
+    use std::test::Fail;
+
+    // More than two buffers' worth of bytes, in which no two neighbours are the same.
+    fn text(alloc: Global) -> Result<Vec<u8>, Fail> {
+        let mut text = Vec::new(alloc);
+        for n in 0..10_000u32 {
+            text.push((n % 251) as u8)?;
+        }
+        Ok(text)
+    }
+
+    // Puts the text in parts of this size, and then two numbers.
+    fn put_all(text: &[u8], size: usize, desk: &mut MemDesk) -> Result<(), Failed>
+        requires { 0 < size }
+    {
+        let mut piece = Piece::to_say();
+        for part in text.chunks(size) {
+            piece.put(part, desk)?;
+        }
+        piece.put_number(0, desk)?;
+        piece.put_number(u64::MAX, desk)?;
+        piece.end(desk)
+    }
+
+    #[test]
+    fn says_what_was_put(rt: HostRuntime) -> Result<(), Fail> {
+        let text = text(rt.alloc())?;
+        let mut want = text.clone()?;
+        want.extend_from_slice(b"018446744073709551615")?;
+        for size in [1usize, 7, 4095, 4096, 4097, 10_000] {
+            let mut desk = MemDesk::new(rt.alloc());
+            desk.say_room(20_000)?;
+            assert!(rt; size > 0);
+            assert_eq!(rt; put_all(&text, size, &mut desk), Ok(()), "parts of {size}");
+            assert_eq!(rt; desk.said(), want.as_slice(), "parts of {size}");
+        }
+        Ok(())
+    }
+
+    #[test]
+    fn a_failure_leaves_a_front(rt: HostRuntime) -> Result<(), Fail> {
+        let text = text(rt.alloc())?;
+        assert_eq!(rt; text.len(), 10_000);
+        let (front, _) = text.split_at(4096 + 5);
+        let mut desk = MemDesk::new(rt.alloc());
+        desk.say_room(20_000)?;
+        desk.fail_at(2, 5)?;
+        assert_eq!(rt; put_all(&text, 7, &mut desk), Err(Failed));
+        assert_eq!(rt; desk.said(), front);
+        Ok(())
+    }
+}

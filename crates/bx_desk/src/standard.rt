@@ -108,3 +108,66 @@ fn write_whole<W: Write>(out: &mut W, bytes: &[u8]) -> Result<(), Failed>
     }
     Ok(())
 }
+
+#[cfg(test)]
+mod tests {
+    use super::*;
+    use std::test::Fail;
+    use std::{env, process};
+
+    #[test]
+    fn loads(rt: HostRuntime) -> Result<(), Fail> {
+        let alloc = rt.alloc();
+        let bytes = vec![in alloc; b'x'; 3 * CHUNK]?;
+        let folder = env::temp_dir(&rt)?.into_string();
+        let file = format!(in alloc; "{folder}/bx_desk_{}", process::id(rt.process()))?;
+        let missing = format!(in alloc; "{file}_missing")?;
+        let size = bytes.len() as u64;
+        let rows = [
+            ("at its limit", file.as_str(), size, Ok(()), bytes.len(), 0),
+            (
+                "past its limit",
+                file.as_str(),
+                3,
+                Err(LoadFault::TooLong),
+                4,
+                0,
+            ),
+            (
+                "missing",
+                missing.as_str(),
+                size,
+                Err(LoadFault::Failed),
+                0,
+                1,
+            ),
+            (
+                "a folder",
+                folder.as_str(),
+                size,
+                Err(LoadFault::Failed),
+                0,
+                2,
+            ),
+        ];
+        let mut desk = StdDesk::new(&rt);
+        for (case, name, limit, answer, len, faults) in rows {
+            let mut into = Vec::new(alloc);
+            fs::write(&rt, file.as_str(), bytes.as_slice())?;
+            let result = desk.load(name, limit, &mut into);
+            fs::remove_file(&rt, file.as_str())?;
+            assert_eq!(rt; result, answer, "{case}");
+            assert_eq!(rt; into.len(), len, "{case}");
+            assert!(rt; bytes.starts_with(&into), "{case}");
+            assert_eq!(rt; (desk.load_faults, desk.say_faults), (faults, 0), "{case}");
+        }
+        Ok(())
+    }
+
+    #[test]
+    fn says(rt: HostRuntime) {
+        let mut desk = StdDesk::new(&rt);
+        assert_eq!(rt; desk.say(b"said by a test\n"), Ok(()));
+        assert_eq!(rt; (desk.load_faults, desk.say_faults), (0, 0));
+    }
+}

@@ -77,7 +77,11 @@ pub trait Desk {
         ensures answer { IfSome (files self.old) (λ files.
             LoadAnswers (faults self.old) (faults self.new) (load_answer limit (files name.now)) result) }
 
+        // A count rises only with `Failed`.
         ensures failed { IsErrOf result LoadFault.Failed → Rose (faults self.old).load (faults self.new).load }
+        ensures ok_no_fault { OnOk result (faults self.new ≡ faults self.old) }
+        ensures no_memory_no_fault { IsErrOf result LoadFault.NoMemory → faults self.new ≡ faults self.old }
+
         ensures failed_empty { IsErrOf result LoadFault.Failed → into.new.items ≡ [] }
         ensures no_memory_empty { IsErrOf result LoadFault.NoMemory → into.new.items ≡ [] }
 
@@ -94,6 +98,7 @@ pub trait Desk {
         ensures adds { OnOk result (Adds (said self.old) (said self.new) piece.now) }
         ensures front { OnErr result (AddsFront (said self.old) (said self.new) piece.now) }
         ensures failed { OnErr result (Rose (faults self.old).say (faults self.new).say) }
+        ensures ok_no_fault { OnOk result (faults self.new ≡ faults self.old) }
         ensures counts { SayCounts (faults self.old) (faults self.new) }
         ensures files_stay { files self.new ≡ files self.old };
 }

@@ -206,7 +206,11 @@ impl Desk for MemDesk {
         ensures answer { IfSome (Some (shown self.old).files) (λ files.
             LoadAnswers (shown self.old).faults (shown self.new).faults (load_answer limit (files name.now)) result) }
 
+        // A count rises only with `Failed`.
         ensures failed { IsErrOf result LoadFault.Failed → Rose (shown self.old).faults.load (shown self.new).faults.load }
+        ensures ok_no_fault { OnOk result ((shown self.new).faults ≡ (shown self.old).faults) }
+        ensures no_memory_no_fault { IsErrOf result LoadFault.NoMemory → (shown self.new).faults ≡ (shown self.old).faults }
+
         ensures failed_empty { IsErrOf result LoadFault.Failed → into.new.items ≡ [] }
         ensures no_memory_empty { IsErrOf result LoadFault.NoMemory → into.new.items ≡ [] }
 
@@ -231,6 +235,7 @@ impl Desk for MemDesk {
         ensures adds { OnOk result (Adds (Some (shown self.old).said) (Some (shown self.new).said) piece.now) }
         ensures front { OnErr result (AddsFront (Some (shown self.old).said) (Some (shown self.new).said) piece.now) }
         ensures failed { OnErr result (Rose (shown self.old).faults.say (shown self.new).faults.say) }
+        ensures ok_no_fault { OnOk result ((shown self.new).faults ≡ (shown self.old).faults) }
         ensures counts { SayCounts (shown self.old).faults (shown self.new).faults }
         ensures files_stay { (shown self.new).files ≡ (shown self.old).files }
         // It fails just where it was told to, and where there is no room for all of the piece.

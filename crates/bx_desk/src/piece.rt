@@ -38,6 +38,7 @@ impl Piece {
         ensures said { HandsOn result (D.said desk.old) (D.said desk.new) (pending self.old ++ bytes.now) (pending self.new) }
         ensures whole_buffers { OnOk result (length (pending self.new) ≡ (length (pending self.old) + length bytes.now) % 4096) }
         ensures failed { OnErr result (Rose (D.faults desk.old).say (D.faults desk.new).say) }
+        ensures ok_no_fault { OnOk result (D.faults desk.new ≡ D.faults desk.old) }
         ensures counts { SayCounts (D.faults desk.old) (D.faults desk.new) }
         ensures files_stay { D.files desk.new ≡ D.files desk.old }
     {
@@ -64,6 +65,7 @@ impl Piece {
         ensures said { HandsOn result (D.said desk.old) (D.said desk.new) (pending self.old ++ decimal n) (pending self.new) }
         ensures whole_buffers { OnOk result (length (pending self.new) ≡ (length (pending self.old) + length (decimal n)) % 4096) }
         ensures failed { OnErr result (Rose (D.faults desk.old).say (D.faults desk.new).say) }
+        ensures ok_no_fault { OnOk result (D.faults desk.new ≡ D.faults desk.old) }
         ensures counts { SayCounts (D.faults desk.old) (D.faults desk.new) }
         ensures files_stay { D.files desk.new ≡ D.files desk.old }
     {
@@ -80,6 +82,7 @@ impl Piece {
         ensures said { HandsOn result (D.said desk.old) (D.said desk.new) (pending self.old) [] }
         ensures empty { OnOk result (pending self.new ≡ []) }
         ensures failed { OnErr result (Rose (D.faults desk.old).say (D.faults desk.new).say) }
+        ensures ok_no_fault { OnOk result (D.faults desk.new ≡ D.faults desk.old) }
         ensures counts { SayCounts (D.faults desk.old) (D.faults desk.new) }
         ensures files_stay { D.files desk.new ≡ D.files desk.old }
     {

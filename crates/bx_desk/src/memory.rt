@@ -1,5 +1,6 @@
-//! A desk in memory, for tests: it tells its files and what was said, and it fails just where it was
-//! told to. It takes its memory beforehand, so that saying takes none.
+//! A desk in memory, for tests: it tells its files and what was said. It fails just where it was told
+//! to, where no file has the name, and where the room is too small. The room's memory is taken
+//! beforehand, so that saying takes none.
 ghost use Rattle.std.specs.Prelude.{◌≡◌, ◌+◌, ◌<◌, ◌≤◌, ◌↔◌, ◌++◌, [], ◌∷◌, ◌-◌, ℕ, List, length, take, vec_len, vec_capacity, IfSome, OnOk, OnErr, IsErr, IsErrOf, IsTrue, Ok, Err, Some, None, Option, option_map, is_some, if◌then◌else◌};
 ghost use Rattle.std.specs.Str.{bytes_eq};
 ghost use Rattle.std.specs.BTreeMap.{get_by_text};
@@ -51,7 +52,11 @@ impl MemDesk {
         }
     }
 
-    /// Holds the bytes as the file of this name, in place of those that it may have had.
+    /// Holds a copy of the bytes as the file of this name, in place of one that was there.
+    ///
+    /// # Errors
+    ///
+    /// `NoMemory` where memory was refused: then nothing has changed.
     pub fn put(&mut self, name: &str, bytes: &[u8]) -> Result<(), NoMemory>
         ensures file { OnOk result ((q : List ℕ) → (shown self.new).files q
             ≡ (if bytes_eq name.now q then Some bytes.now else (shown self.old).files q)) }
@@ -64,8 +69,12 @@ impl MemDesk {
         Ok(())
     }
 
-    /// Lets the call of this number fail. A `say` that fails so keeps the first `kept` bytes of its
-    /// piece, as far as the room goes. Of several plans for one number the first counts.
+    /// Plans that the call of this number fails. A `say` that fails so keeps the first `kept` bytes
+    /// of its piece, as far as the room goes. Of several plans for one number the first counts.
+    ///
+    /// # Errors
+    ///
+    /// `NoMemory` where memory was refused: then nothing has changed.
     pub fn fail_at(&mut self, call: u64, kept: u64) -> Result<(), NoMemory>
         ensures ok { OnOk result (shown self.new ≡ record (shown self.old) { fails = (shown self.old).fails ++ (call, kept) ∷ [] }) }
         ensures err { OnErr result (shown self.new ≡ shown self.old) }
@@ -89,6 +98,11 @@ impl MemDesk {
     }
 
     /// Makes room for so many more bytes to be said.
+    ///
+    /// # Errors
+    ///
+    /// `NoMemory` where memory was refused, or where the room would pass `u64::MAX`: then nothing
+    /// has changed.
     pub fn say_room(&mut self, bytes: u64) -> Result<(), NoMemory>
         ensures ok { OnOk result (shown self.new ≡ record (shown self.old) { room = (shown self.old).room + bytes }) }
         ensures err { OnErr result (shown self.new ≡ shown self.old) }
@@ -161,7 +175,7 @@ fn readable<'a>(
     files.get(name).map(|file| file.as_slice())
 }
 
-// Copies a file into an empty vector, or a front of it that shows that it is too long.
+// Copies a file into an empty vector; of one past the limit, only its first limit + 1 bytes.
 fn copy_within(file: &[u8], limit: u64, into: &mut Vec<u8>) -> Result<(), LoadFault>
     requires { into.old.items ≡ [] }
     ensures answer { LoadsFile file.now limit result into.new.items }
@@ -197,12 +211,12 @@ impl Desk for MemDesk {
         ensures whole { OnOk result (IsFile (Some (shown self.old).files) name.now into.new.items) }
         ensures within { OnOk result (vec_len into.new ≤ limit) }
 
-        // `TooLong`: no fault came, and the file goes on behind its first limit + 1 bytes or ends there.
+        // `TooLong`: the file begins with what the vector has, which is a byte past the limit.
         ensures too_long { IsErrOf result LoadFault.TooLong → vec_len into.new ≡ limit + 1 }
         ensures too_long_front { IsErrOf result LoadFault.TooLong → BeginsFile (Some (shown self.old).files) name.now into.new.items }
         ensures too_long_no_fault { IsErrOf result LoadFault.TooLong → (shown self.new).faults ≡ (shown self.old).faults }
 
-        // What the name names has just its own answer.
+        // The answer follows from the file, unless memory was refused or the desk failed.
         ensures answer { IfSome (Some (shown self.old).files) (λ files.
             LoadAnswers (shown self.old).faults (shown self.new).faults (load_answer limit (files name.now)) result) }
 

@@ -1,5 +1,6 @@
-//! A piece gathers what is said, so that a desk is called once for each full buffer and not once for
-//! each word. It takes no memory, and it hands its bytes on in the order in which they were put.
+//! A piece gathers what is to be said, so that a desk is called once for each full buffer and not
+//! once for each word. It takes no memory, and it hands its bytes on in the order in which they were
+//! put. When the last is put, `end` hands on the rest; without that call it is never said.
 ghost use Rattle.std.specs.Prelude.{◌≡◌, ◌++◌, ◌+◌, ◌<◌, ◌%◌, [], length, OnOk, OnErr, decimal};
 ghost use Rattle.bx_desk.specs.Desk.{Rose, SayCounts};
 
@@ -19,7 +20,7 @@ pub struct Piece {
 impl Piece {
     ghost use Rattle.bx_desk.specs.Pieces.{pending, HandsOn};
 
-    /// An empty piece, whose bytes are to be said.
+    /// An empty piece, for bytes that are to be said.
     pub fn to_say() -> Self
         ensures { pending result ≡ [] }
     {
@@ -29,7 +30,7 @@ impl Piece {
         }
     }
 
-    /// Puts the bytes behind those put before. A full buffer is handed on at once.
+    /// Puts the bytes behind those put before. Each buffer is handed on as soon as it is full.
     ///
     /// # Errors
     ///
@@ -73,7 +74,7 @@ impl Piece {
         self.put(digits.format(n).as_bytes(), desk)
     }
 
-    /// Hands on what is pending, if anything is.
+    /// Hands on what is pending, and calls the desk only if something is.
     ///
     /// # Errors
     ///

@@ -1,9 +1,11 @@
 //! The real desk: files of the system and standard output. Its loops over `read` and `write` are
-//! proved over any reader and writer; what a real file or terminal holds no clause can say, so this
-//! desk tells neither files nor said bytes. It is the trusted edge.
+//! proved over any reader and writer. No clause can say what a real file or terminal holds, so this
+//! desk tells neither its files nor what was said: that it opens the named file and writes to
+//! standard output is left to tests.
 ghost use Rattle.std.specs.Prelude.{◌≡◌, ◌+◌, ◌<◌, ◌≤◌, ◌++◌, [], ℕ, List, length, vec_len, IfSome, OnOk, OnErr, IsErrOf, Option, None};
 ghost use Rattle.std.specs.Io.KnownBytes.{Appends};
 ghost use Rattle.bx_desk.specs.Desk.{Counts};
+ghost use Rattle.bx_desk.specs.Standard.{AppendsFront};
 
 use crate::{Desk, Failed, LoadFault};
 use std::fs;
@@ -66,7 +68,7 @@ impl<R: Files + Print> Desk for StdDesk<'_, R> {
     }
 }
 
-// Reads to the end, or to the first byte past the limit.
+// Reads into an empty vector, to the end or to the first byte past the limit.
 fn read_within<F: Read>(file: &mut F, limit: u64, into: &mut Vec<u8>) -> Result<(), LoadFault>
     requires { into.old.items ≡ [] }
     ensures whole { OnOk result (IfSome (F.remaining file.old) (λ bytes. into.new.items ≡ bytes)) }
@@ -95,9 +97,10 @@ fn read_within<F: Read>(file: &mut F, limit: u64, into: &mut Vec<u8>) -> Result<
     Err(LoadFault::TooLong)
 }
 
-// Writes all of the bytes. A writer that takes none of them has failed.
+// Writes all of the bytes, or after a failure a front of them. A writer that takes none has failed.
 fn write_whole<W: Write>(out: &mut W, bytes: &[u8]) -> Result<(), Failed>
-    ensures { OnOk result (Appends (W.contents out.old) (W.contents out.new) bytes.now) }
+    ensures whole { OnOk result (Appends (W.contents out.old) (W.contents out.new) bytes.now) }
+    ensures front { OnErr result (AppendsFront (W.contents out.old) (W.contents out.new) bytes.now) }
 {
     let mut rest = bytes;
     while !rest.is_empty() {

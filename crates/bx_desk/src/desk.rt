@@ -1,9 +1,9 @@
 //! What bestagon asks of its surroundings: files by name, and a place to say things. The trait `Desk`
 //! stands for them, so that everything above is proved over any desk, real or in memory.
 //!
-//! Each kind of call has a count of its failures, which stays once it is at the end of its type. A
-//! count rises only in a call that answers `Failed`, and an answer above that blames the desk comes
-//! only where a count rose, so no body can blame a desk that did not fail.
+//! Each kind of call has a count of its failures. It rises only in a call that answers `Failed`, and
+//! an answer that blames the desk comes only where it rose. So no body can blame a desk that did not
+//! fail, as long as the counts are below 2^64 - 1, where they stop.
 ghost use Rattle.std.specs.Prelude.{◌≡◌, ◌+◌, ◌<◌, ◌≤◌, List, [], ℕ, length, vec_len, IfSome, OnOk, OnErr, IsErrOf, Ok, Err, Some, Option};
 ghost use Rattle.bx_desk.specs.Desk.{Files, Counts, Rose, LoadCounts, SayCounts, IsFile, BeginsFile, LoadAnswers, load_answer, Adds, AddsFront};
 

@@ -16,12 +16,12 @@ pub record Counts : Type 0 where
 abbrev pub Rose : ℕ → ℕ → Type 0
 Rose before now = min (before + 1) (2 ^ 64 - 1) ≤ now
 
--- after a call of `load`: its count doesn't fall, and the other stays
+-- in a call of `load` the count of failed loads doesn't fall, and the other stays
 pub record LoadCounts (before now : Counts) : Type 0 where
   pub load : before.load ≤ now.load
   pub say : now.say ≡ before.say
 
--- after a call of `say`, or of several
+-- in one call of `say`, or in several, the count of failed says doesn't fall, and the other stays
 pub record SayCounts (before now : Counts) : Type 0 where
   pub load : now.load ≡ before.load
   pub say : before.say ≤ now.say
@@ -34,12 +34,12 @@ IsFile told name bytes = IfSome told (λ files. files name ≡ Some bytes)
 abbrev pub BeginsFile : Option Files → List ℕ → List ℕ → Type 0
 BeginsFile told name front = IfSome told (λ files. (rest : List ℕ) × (files name ≡ Some (front ++ rest)))
 
--- The answer to a load by what the name names: a file within the limit, one past it, or none.
+-- the answer to a load, by what the name names: no file, one past the limit, or one within it
 abbrev pub load_answer : ℕ → Option (List ℕ) → Result (Unit {0}) LoadFault
 load_answer limit None = Err Failed
 load_answer limit (Some bytes) = if nat_lt limit (length bytes) then Err TooLong else Ok tt
 
--- The answer of a load is this one, but where memory was refused or the desk failed: then its count rose.
+-- A load gave this answer, unless memory was refused or the desk failed. If it failed, its count of failed loads rose.
 abbrev pub LoadAnswers : {T : Type 0} → Counts → Counts → Result T LoadFault → Result T LoadFault → Type 0
 LoadAnswers before now answer (Err NoMemory) = ⊤
 LoadAnswers before now answer (Err Failed) = Rose before.load now.load

@@ -1,8 +1,9 @@
-//! What bestagon asks of its surroundings: files by name, and a place to say things. A `Desk` is the
-//! trait of it, so that everything above is proved over any desk, real or in memory.
+//! What bestagon asks of its surroundings: files by name, and a place to say things. The trait `Desk`
+//! stands for them, so that everything above is proved over any desk, real or in memory.
 //!
-//! Each kind of call has a count of its failures. An answer that blames the desk comes only where
-//! that count rose, so no body can blame a desk that did not fail.
+//! Each kind of call has a count of its failures. It rises only in a call that answers `Failed`, and
+//! an answer that blames the desk comes only where it rose. So no body can blame a desk that did not
+//! fail, as long as the counts are below 2^64 - 1, where they stop.
 ghost use Rattle.std.specs.Prelude.{◌≡◌, ◌+◌, ◌<◌, ◌≤◌, List, [], ℕ, length, vec_len, IfSome, OnOk, OnErr, IsErrOf, Ok, Err, Some, Option};
 ghost use Rattle.bx_desk.specs.Desk.{Files, Counts, Rose, LoadCounts, SayCounts, IsFile, BeginsFile, LoadAnswers, load_answer, Adds, AddsFront};
 
@@ -68,16 +69,20 @@ pub trait Desk {
         ensures whole { OnOk result (IsFile (files self.old) name.now into.new.items) }
         ensures within { OnOk result (vec_len into.new ≤ limit) }
 
-        // `TooLong`: no fault came, and the file goes on behind its first limit + 1 bytes or ends there.
+        // `TooLong`: the file begins with what the vector has, which is a byte past the limit.
         ensures too_long { IsErrOf result LoadFault.TooLong → vec_len into.new ≡ limit + 1 }
         ensures too_long_front { IsErrOf result LoadFault.TooLong → BeginsFile (files self.old) name.now into.new.items }
         ensures too_long_no_fault { IsErrOf result LoadFault.TooLong → faults self.new ≡ faults self.old }
 
-        // What the name names has just its own answer.
+        // The answer follows from the file, unless memory was refused or the desk failed.
         ensures answer { IfSome (files self.old) (λ files.
             LoadAnswers (faults self.old) (faults self.new) (load_answer limit (files name.now)) result) }
 
+        // A count rises only with `Failed`.
         ensures failed { IsErrOf result LoadFault.Failed → Rose (faults self.old).load (faults self.new).load }
+        ensures ok_no_fault { OnOk result (faults self.new ≡ faults self.old) }
+        ensures no_memory_no_fault { IsErrOf result LoadFault.NoMemory → faults self.new ≡ faults self.old }
+
         ensures failed_empty { IsErrOf result LoadFault.Failed → into.new.items ≡ [] }
         ensures no_memory_empty { IsErrOf result LoadFault.NoMemory → into.new.items ≡ [] }
 
@@ -94,6 +99,30 @@ pub trait Desk {
         ensures adds { OnOk result (Adds (said self.old) (said self.new) piece.now) }
         ensures front { OnErr result (AddsFront (said self.old) (said self.new) piece.now) }
         ensures failed { OnErr result (Rose (faults self.old).say (faults self.new).say) }
+        ensures ok_no_fault { OnOk result (faults self.new ≡ faults self.old) }
         ensures counts { SayCounts (faults self.old) (faults self.new) }
         ensures files_stay { files self.new ≡ files self.old };
+}
+
+#[cfg(test)]
+mod tests {
+    use super::*;
+    use std::test::Fail;
+
+    #[test]
+    fn messages(rt: HostRuntime) -> Result<(), Fail> {
+        let rows = [
+            (LoadFault::Failed, "the file could not be read"),
+            (LoadFault::TooLong, "the file is too long"),
+            (LoadFault::NoMemory, "out of memory"),
+        ];
+        for (fault, message) in rows {
+            assert_eq!(rt; format!(in rt.alloc(); "{fault}")?.as_str(), message);
+        }
+        assert_eq!(rt;
+            format!(in rt.alloc(); "{Failed}")?.as_str(),
+            "the desk failed"
+        );
+        Ok(())
+    }
 }

@@ -1,5 +1,6 @@
-//! A desk in memory, for tests: it tells its files and what was said, and it fails just where it was
-//! told to. It takes its memory beforehand, so that saying takes none.
+//! A desk in memory, for tests: it tells its files and what was said. It fails just where it was told
+//! to, where no file has the name, and where the room is too small. The room's memory is taken
+//! beforehand, so that saying takes none.
 ghost use Rattle.std.specs.Prelude.{◌≡◌, ◌+◌, ◌<◌, ◌≤◌, ◌↔◌, ◌++◌, [], ◌∷◌, ◌-◌, ℕ, List, length, take, vec_len, vec_capacity, IfSome, OnOk, OnErr, IsErr, IsErrOf, IsTrue, Ok, Err, Some, None, Option, option_map, is_some, if◌then◌else◌};
 ghost use Rattle.std.specs.Str.{bytes_eq};
 ghost use Rattle.std.specs.BTreeMap.{get_by_text};
@@ -51,7 +52,11 @@ impl MemDesk {
         }
     }
 
-    /// Holds the bytes as the file of this name, in place of those that it may have had.
+    /// Holds a copy of the bytes as the file of this name, in place of one that was there.
+    ///
+    /// # Errors
+    ///
+    /// `NoMemory` where memory was refused: then nothing has changed.
     pub fn put(&mut self, name: &str, bytes: &[u8]) -> Result<(), NoMemory>
         ensures file { OnOk result ((q : List ℕ) → (shown self.new).files q
             ≡ (if bytes_eq name.now q then Some bytes.now else (shown self.old).files q)) }
@@ -64,8 +69,12 @@ impl MemDesk {
         Ok(())
     }
 
-    /// Lets the call of this number fail. A `say` that fails so keeps the first `kept` bytes of its
-    /// piece, as far as the room goes. Of several plans for one number the first counts.
+    /// Plans that the call of this number fails. A `say` that fails so keeps the first `kept` bytes
+    /// of its piece, as far as the room goes. Of several plans for one number the first counts.
+    ///
+    /// # Errors
+    ///
+    /// `NoMemory` where memory was refused: then nothing has changed.
     pub fn fail_at(&mut self, call: u64, kept: u64) -> Result<(), NoMemory>
         ensures ok { OnOk result (shown self.new ≡ record (shown self.old) { fails = (shown self.old).fails ++ (call, kept) ∷ [] }) }
         ensures err { OnErr result (shown self.new ≡ shown self.old) }
@@ -89,6 +98,11 @@ impl MemDesk {
     }
 
     /// Makes room for so many more bytes to be said.
+    ///
+    /// # Errors
+    ///
+    /// `NoMemory` where memory was refused, or where the room would pass `u64::MAX`: then nothing
+    /// has changed.
     pub fn say_room(&mut self, bytes: u64) -> Result<(), NoMemory>
         ensures ok { OnOk result (shown self.new ≡ record (shown self.old) { room = (shown self.old).room + bytes }) }
         ensures err { OnErr result (shown self.new ≡ shown self.old) }
@@ -161,7 +175,7 @@ fn readable<'a>(
     files.get(name).map(|file| file.as_slice())
 }
 
-// Copies a file into an empty vector, or a front of it that shows that it is too long.
+// Copies a file into an empty vector; of one past the limit, only its first limit + 1 bytes.
 fn copy_within(file: &[u8], limit: u64, into: &mut Vec<u8>) -> Result<(), LoadFault>
     requires { into.old.items ≡ [] }
     ensures answer { LoadsFile file.now limit result into.new.items }
@@ -197,16 +211,20 @@ impl Desk for MemDesk {
         ensures whole { OnOk result (IsFile (Some (shown self.old).files) name.now into.new.items) }
         ensures within { OnOk result (vec_len into.new ≤ limit) }
 
-        // `TooLong`: no fault came, and the file goes on behind its first limit + 1 bytes or ends there.
+        // `TooLong`: the file begins with what the vector has, which is a byte past the limit.
         ensures too_long { IsErrOf result LoadFault.TooLong → vec_len into.new ≡ limit + 1 }
         ensures too_long_front { IsErrOf result LoadFault.TooLong → BeginsFile (Some (shown self.old).files) name.now into.new.items }
         ensures too_long_no_fault { IsErrOf result LoadFault.TooLong → (shown self.new).faults ≡ (shown self.old).faults }
 
-        // What the name names has just its own answer.
+        // The answer follows from the file, unless memory was refused or the desk failed.
         ensures answer { IfSome (Some (shown self.old).files) (λ files.
             LoadAnswers (shown self.old).faults (shown self.new).faults (load_answer limit (files name.now)) result) }
 
+        // A count rises only with `Failed`.
         ensures failed { IsErrOf result LoadFault.Failed → Rose (shown self.old).faults.load (shown self.new).faults.load }
+        ensures ok_no_fault { OnOk result ((shown self.new).faults ≡ (shown self.old).faults) }
+        ensures no_memory_no_fault { IsErrOf result LoadFault.NoMemory → (shown self.new).faults ≡ (shown self.old).faults }
+
         ensures failed_empty { IsErrOf result LoadFault.Failed → into.new.items ≡ [] }
         ensures no_memory_empty { IsErrOf result LoadFault.NoMemory → into.new.items ≡ [] }
 
@@ -231,6 +249,7 @@ impl Desk for MemDesk {
         ensures adds { OnOk result (Adds (Some (shown self.old).said) (Some (shown self.new).said) piece.now) }
         ensures front { OnErr result (AddsFront (Some (shown self.old).said) (Some (shown self.new).said) piece.now) }
         ensures failed { OnErr result (Rose (shown self.old).faults.say (shown self.new).faults.say) }
+        ensures ok_no_fault { OnOk result ((shown self.new).faults ≡ (shown self.old).faults) }
         ensures counts { SayCounts (shown self.old).faults (shown self.new).faults }
         ensures files_stay { (shown self.new).files ≡ (shown self.old).files }
         // It fails just where it was told to, and where there is no room for all of the piece.
@@ -255,5 +274,74 @@ impl Desk for MemDesk {
                 Err(Failed)
             }
         }
+    }
+}
+
+#[cfg(test)]
+mod tests {
+    use super::*;
+    use std::test::Fail;
+
+    // A desk with the file "a" of five bytes and an empty file.
+    fn filled(alloc: Global) -> Result<MemDesk, NoMemory> {
+        let mut desk = MemDesk::new(alloc);
+        desk.put("a", b"abcde")?;
+        desk.put("empty", b"")?;
+        Ok(desk)
+    }
+
+    // Each row is one call, numbered from 1, and the third is to fail.
+    #[test]
+    fn loads(rt: HostRuntime) -> Result<(), Fail> {
+        let mut desk = filled(rt.alloc())?;
+        desk.fail_at(3, 2)?;
+        let rows = [
+            ("within its limit", "a", u64::MAX, Ok(()), "abcde"),
+            ("at its limit", "a", 5, Ok(()), "abcde"),
+            ("planned to fail", "a", 9, Err(LoadFault::Failed), ""),
+            (
+                "one past its limit",
+                "a",
+                4,
+                Err(LoadFault::TooLong),
+                "abcde",
+            ),
+            ("far past its limit", "a", 1, Err(LoadFault::TooLong), "ab"),
+            ("not there", "b", 9, Err(LoadFault::Failed), ""),
+            ("empty", "empty", 0, Ok(()), ""),
+        ];
+        for (case, name, limit, answer, left) in rows {
+            let mut into = Vec::new(rt.alloc());
+            assert_eq!(rt; desk.load(name, limit, &mut into), answer, "{case}");
+            assert_eq!(rt; into.as_slice(), left.as_bytes(), "{case}");
+        }
+        assert_eq!(rt; desk.file("a"), Some(b"abcde".as_slice()));
+        assert_eq!(rt; desk.file("b"), None);
+        Ok(())
+    }
+
+    // The load before it is call 1, so the say of each row is call 2.
+    #[test]
+    fn says(rt: HostRuntime) -> Result<(), Fail> {
+        let rows = [
+            ("room for all", 3, None, Ok(()), "abc"),
+            ("room lacking", 2, None, Err(Failed), ""),
+            ("kept below the length", 9, Some(1), Err(Failed), "a"),
+            ("kept at the length", 9, Some(3), Err(Failed), "abc"),
+            ("kept above the length", 9, Some(4), Err(Failed), "abc"),
+            ("kept above the room", 2, Some(3), Err(Failed), "ab"),
+        ];
+        for (case, room, kept, answer, said) in rows {
+            let mut desk = filled(rt.alloc())?;
+            desk.say_room(room)?;
+            if let Some(kept) = kept {
+                desk.fail_at(2, kept)?;
+                desk.fail_at(2, 0)?;
+            }
+            desk.load("a", 9, &mut Vec::new(rt.alloc()))?;
+            assert_eq!(rt; desk.say(b"abc"), answer, "{case}");
+            assert_eq!(rt; desk.said(), said.as_bytes(), "{case}");
+        }
+        Ok(())
     }
 }

@@ -1,9 +1,11 @@
 //! The real desk: files of the system and standard output. Its loops over `read` and `write` are
-//! proved over any reader and writer; what a real file or terminal holds no clause can say, so this
-//! desk tells neither files nor said bytes. It is the trusted edge.
+//! proved over any reader and writer. No clause can say what a real file or terminal holds, so this
+//! desk tells neither its files nor what was said: that it opens the named file and writes to
+//! standard output is left to tests.
 ghost use Rattle.std.specs.Prelude.{◌≡◌, ◌+◌, ◌<◌, ◌≤◌, ◌++◌, [], ℕ, List, length, vec_len, IfSome, OnOk, OnErr, IsErrOf, Option, None};
 ghost use Rattle.std.specs.Io.KnownBytes.{Appends};
 ghost use Rattle.bx_desk.specs.Desk.{Counts};
+ghost use Rattle.bx_desk.specs.Standard.{AppendsFront};
 
 use crate::{Desk, Failed, LoadFault};
 use std::fs;
@@ -66,7 +68,7 @@ impl<R: Files + Print> Desk for StdDesk<'_, R> {
     }
 }
 
-// Reads to the end, or to the first byte past the limit.
+// Reads into an empty vector, to the end or to the first byte past the limit.
 fn read_within<F: Read>(file: &mut F, limit: u64, into: &mut Vec<u8>) -> Result<(), LoadFault>
     requires { into.old.items ≡ [] }
     ensures whole { OnOk result (IfSome (F.remaining file.old) (λ bytes. into.new.items ≡ bytes)) }
@@ -95,9 +97,10 @@ fn read_within<F: Read>(file: &mut F, limit: u64, into: &mut Vec<u8>) -> Result<
     Err(LoadFault::TooLong)
 }
 
-// Writes all of the bytes. A writer that takes none of them has failed.
+// Writes all of the bytes, or after a failure a front of them. A writer that takes none has failed.
 fn write_whole<W: Write>(out: &mut W, bytes: &[u8]) -> Result<(), Failed>
-    ensures { OnOk result (Appends (W.contents out.old) (W.contents out.new) bytes.now) }
+    ensures whole { OnOk result (Appends (W.contents out.old) (W.contents out.new) bytes.now) }
+    ensures front { OnErr result (AppendsFront (W.contents out.old) (W.contents out.new) bytes.now) }
 {
     let mut rest = bytes;
     while !rest.is_empty() {
@@ -107,4 +110,67 @@ fn write_whole<W: Write>(out: &mut W, bytes: &[u8]) -> Result<(), Failed>
         }
     }
     Ok(())
+}
+
+#[cfg(test)]
+mod tests {
+    use super::*;
+    use std::test::Fail;
+    use std::{env, process};
+
+    #[test]
+    fn loads(rt: HostRuntime) -> Result<(), Fail> {
+        let alloc = rt.alloc();
+        let bytes = vec![in alloc; b'x'; 3 * CHUNK]?;
+        let folder = env::temp_dir(&rt)?.into_string();
+        let file = format!(in alloc; "{folder}/bx_desk_{}", process::id(rt.process()))?;
+        let missing = format!(in alloc; "{file}_missing")?;
+        let size = bytes.len() as u64;
+        let rows = [
+            ("at its limit", file.as_str(), size, Ok(()), bytes.len(), 0),
+            (
+                "past its limit",
+                file.as_str(),
+                3,
+                Err(LoadFault::TooLong),
+                4,
+                0,
+            ),
+            (
+                "missing",
+                missing.as_str(),
+                size,
+                Err(LoadFault::Failed),
+                0,
+                1,
+            ),
+            (
+                "a folder",
+                folder.as_str(),
+                size,
+                Err(LoadFault::Failed),
+                0,
+                2,
+            ),
+        ];
+        let mut desk = StdDesk::new(&rt);
+        for (case, name, limit, answer, len, faults) in rows {
+            let mut into = Vec::new(alloc);
+            fs::write(&rt, file.as_str(), bytes.as_slice())?;
+            let result = desk.load(name, limit, &mut into);
+            fs::remove_file(&rt, file.as_str())?;
+            assert_eq!(rt; result, answer, "{case}");
+            assert_eq!(rt; into.len(), len, "{case}");
+            assert!(rt; bytes.starts_with(&into), "{case}");
+            assert_eq!(rt; (desk.load_faults, desk.say_faults), (faults, 0), "{case}");
+        }
+        Ok(())
+    }
+
+    #[test]
+    fn says(rt: HostRuntime) {
+        let mut desk = StdDesk::new(&rt);
+        assert_eq!(rt; desk.say(b"said by a test\n"), Ok(()));
+        assert_eq!(rt; (desk.load_faults, desk.say_faults), (0, 0));
+    }
 }

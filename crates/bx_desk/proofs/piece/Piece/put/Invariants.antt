@@ -11,6 +11,7 @@ invariant-loop-self g l =
       said : AddsUpTo (desk.said l.fn.desk) (desk.said l.desk) (pending l.fn.self ++ l.fn.bytes) (pending l.self ++ l.rest);
       size : (l.self.len + length l.rest) % 4096 ≡ (l.fn.self.len + length l.fn.bytes) % 4096;
       counts : SayCounts (desk.faults l.fn.desk) (desk.faults l.desk);
+      no_fault : desk.faults l.desk ≡ desk.faults l.fn.desk;
       files_stay : desk.files l.desk ≡ desk.files l.fn.desk;
     }
 

@@ -1,4 +1,6 @@
 pub use Rattle.bx_logic.specs.Op
 pub mod Module
 pub mod Chain
+pub mod Names
+pub mod Statements
 pub mod Reads

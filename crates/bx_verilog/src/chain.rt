@@ -4,9 +4,9 @@ ghost use Rattle.bx_verilog.specs.Chain.{IsChain, spelling, inversions};
 ghost use Rattle.bx_verilog.specs.Chain.{Chain as Written};
 ghost use Rattle.bx_verilog.specs.Reads.{Shows};
 
-use bx_logic::{Name, NoMemory};
+use crate::fault::ChainFault;
+use bx_logic::Name;
 use std::alloc::Global;
-use thiserror::Error;
 
 /// What is known of a chain once it is read.
 #[derive(Debug, Drop)]
@@ -19,16 +19,6 @@ pub struct Chain {
     pub output: Name,
     /// How many of its statements are `not`, at most 94.
     pub inversions: u32,
-}
-
-/// Why a text is refused.
-#[derive(Debug, Drop, Error)]
-pub enum ChainFault {
-    /// The text isn't of the first form.
-    #[error("no chain of not and buf")]
-    NotAChain,
-    #[error("out of memory")]
-    NoMemory,
 }
 
 /// Reads a chain, from the first byte of the text to the last.

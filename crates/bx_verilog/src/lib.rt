@@ -2,6 +2,11 @@
 #![tactic(auto)]
 
 pub mod chain;
+pub mod fault;
+mod names;
+mod nets;
 pub mod reserved;
+mod statements;
 
-pub use chain::{Chain, ChainFault, read_chain};
+pub use chain::{Chain, read_chain};
+pub use fault::ChainFault;

@@ -40,11 +40,18 @@ opening op = keyword op ++ codes " ("
 abbrev pub statement_text : Statement → Text
 statement_text s = opening s.op ++ s.target ++ codes ", " ++ s.source ++ codes "); "
 
--- the header and the two declarations of a module with this name, input and output
+abbrev pub header : Text → Text → Text → Text
+header name input output =
+    codes "module " ++ name ++ codes "(" ++ input ++ codes ", " ++ output ++ codes "); "
+
+-- a port is declared by its direction
+abbrev pub declaration : Text → Text → Text
+declaration direction port = direction ++ port ++ codes "; "
+
+-- what stands before the statements of a module with this name, input and output
 abbrev pub heading : Text → Text → Text → Text
 heading name input output =
-    codes "module " ++ name ++ codes "(" ++ input ++ codes ", " ++ output ++ codes "); "
-    ++ codes "input " ++ input ++ codes "; " ++ codes "output " ++ output ++ codes "; "
+    header name input output ++ declaration (codes "input ") input ++ declaration (codes "output ") output
 
 -- the end, with a line feed or without
 abbrev pub ending : Bool → Text

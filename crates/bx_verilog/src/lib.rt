@@ -3,6 +3,7 @@
 
 pub mod chain;
 pub mod fault;
+mod heading;
 mod names;
 mod nets;
 pub mod reserved;

@@ -2,3 +2,4 @@ pub mod Runs
 pub mod Once
 pub mod Apart
 pub mod Ports
+pub mod Ends

@@ -1,8 +1,8 @@
 -- A statement where it stands in a text, and statements that stand in turn.
-use Rattle.std.specs.Prelude.{◌≡◌, List, [], ◌∷◌, map, ⊤}
+use Rattle.std.specs.Prelude.{◌≡◌, ◌≤◌, List, [], ◌∷◌, length, map, ⊤}
 use Rattle.bx_verilog.specs.declared.statements.Gate.{Gate}
 use Rattle.bx_verilog.specs.Module.{Text}
-use Rattle.bx_verilog.specs.Chain.{Statement, IsName, IsUnary}
+use Rattle.bx_verilog.specs.Chain.{Statement, IsName, IsUnary, AreDistinct, targets, last_net, inversions, most_inversions}
 
 -- a gate without where its names lie in memory
 abbrev pub written : Gate → Statement
@@ -21,3 +21,10 @@ pub record IsReading (net : Text) (s : Statement) : Type 0 where
 abbrev pub AreInTurn : Text → List Statement → Type 0
 AreInTurn net [] = ⊤
 AreInTurn net (s ∷ ss) = IsReading net s × AreInTurn s.target ss
+
+-- what the statements of a chain meet beside standing in turn
+pub record IsBody (input output : Text) (ss : List Statement) : Type 0 where
+  pub some : 1 ≤ length ss
+  pub ends : last_net input ss ≡ output
+  pub distinct : AreDistinct (input ∷ targets ss)
+  pub few : inversions ss ≤ most_inversions

@@ -1,8 +1,8 @@
 //! Why a text is refused as a module of the first form.
 ghost use Rattle.std.specs.Prelude.{◌≡◌};
-ghost use Rattle.bx_verilog.specs.declared.fault.ChainFault.TheVariants.{NoMemory};
+ghost use Rattle.bx_verilog.specs.declared.fault.ChainFault.TheVariants.{NoMemory as OutOfMemory};
 
-use std::alloc::{AllocError, AllocFailed};
+use bx_logic::NoMemory;
 use thiserror::Error;
 
 /// Why a text is refused.
@@ -11,22 +11,15 @@ pub enum ChainFault {
     /// The text isn't of the first form.
     #[error("no chain of not and buf")]
     NotAChain,
+    /// Memory was refused, whatever the text is.
     #[error("out of memory")]
     NoMemory,
 }
 
-impl From<AllocError> for ChainFault {
-    ghost from_gives = { λ _ e. e ≡ NoMemory };
+impl From<NoMemory> for ChainFault {
+    ghost from_gives = { λ _ e. e ≡ OutOfMemory };
 
-    fn from(_error: AllocError) -> ChainFault {
-        ChainFault::NoMemory
-    }
-}
-
-impl<T: Drop> From<AllocFailed<T>> for ChainFault {
-    ghost from_gives = { λ _ e. e ≡ NoMemory };
-
-    fn from(_error: AllocFailed<T>) -> ChainFault {
+    fn from(_error: NoMemory) -> ChainFault {
         ChainFault::NoMemory
     }
 }

@@ -1,6 +1,7 @@
 //! Reading modules of the Verilog profile (IEEE 1364-2005, gate primitives).
 #![tactic(auto)]
 
+mod body;
 pub mod chain;
 pub mod fault;
 mod heading;

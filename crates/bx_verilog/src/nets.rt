@@ -4,13 +4,13 @@ ghost use Rattle.std.specs.Prelude.{◌≡◌, ◌∷◌, ◌↔◌, IsTrue, IfO
 ghost use Rattle.bx_verilog.specs.Chain.{AreDistinct, targets};
 ghost use Rattle.bx_verilog.specs.Statements.{all_written};
 
-use crate::fault::ChainFault;
 use crate::statements::Gate;
+use bx_logic::NoMemory;
 use std::alloc::Global;
 use std::collections::BTreeSet;
 
 /// Whether no two of the nets are the same.
-fn are_distinct(alloc: Global, nets: &[&[u8]]) -> Result<bool, ChainFault>
+fn are_distinct(alloc: Global, nets: &[&[u8]]) -> Result<bool, NoMemory>
     ensures { IfOk result (λ r. IsTrue r ↔ AreDistinct (map (λ n. n.now) nets.now)) }
 {
     let set: BTreeSet<&[u8]> = nets.iter().copied().collect(alloc)?;
@@ -18,7 +18,7 @@ fn are_distinct(alloc: Global, nets: &[&[u8]]) -> Result<bool, ChainFault>
 }
 
 /// Whether no statement drives the input, and no two drive one net.
-pub fn drive_apart(alloc: Global, input: &[u8], gates: &[Gate]) -> Result<bool, ChainFault>
+pub fn drive_apart(alloc: Global, input: &[u8], gates: &[Gate]) -> Result<bool, NoMemory>
     ensures { IfOk result (λ r. IsTrue r ↔ AreDistinct (input.now ∷ targets (all_written gates.now))) }
 {
     let mut nets = Vec::new(alloc);

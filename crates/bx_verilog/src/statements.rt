@@ -8,9 +8,8 @@ ghost use Rattle.bx_verilog.specs.Module.{Text};
 ghost use Rattle.bx_verilog.specs.Chain.{Statement, IsUnary, opening, statement_text, last_net};
 ghost use Rattle.bx_verilog.specs.Statements.{IsReading, AreInTurn, written, all_written};
 
-use crate::fault::ChainFault;
 use crate::names::{name_before, strip};
-use bx_logic::Op;
+use bx_logic::{NoMemory, Op};
 use std::alloc::Global;
 
 /// A statement as it stands in the text.
@@ -59,7 +58,7 @@ pub fn statements_at<'a>(
     alloc: Global,
     text: &'a [u8],
     net: &'a [u8],
-) -> Result<(Vec<Gate<'a>>, &'a [u8]), ChainFault>
+) -> Result<(Vec<Gate<'a>>, &'a [u8]), NoMemory>
     ensures in_turn { IfOk result (λ r. AreInTurn net.now (all_written r.0.items)) }
     ensures spelled { IfOk result (λ r. text.now ≡ flat_map statement_text (all_written r.0.items) ++ r.1.now) }
     ensures all { IfOk result (λ r. (s : Statement) (rest : Text) → IsReading (last_net net.now (all_written r.0.items)) s → r.1.now ≢ statement_text s ++ rest) }

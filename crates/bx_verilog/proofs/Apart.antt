@@ -1,5 +1,5 @@
 -- A set of texts is as long as the list that it was made of exactly if no two of them are the same.
-use Rattle.std.proofs.Common.{◌≡◌, ◌≢◌, ℕ, Bool, true, false, eqb, List, [], ◌∷◌, length, map, Bor, Ordering, Decides, sym, ap, ◌∙◌}
+use Rattle.std.proofs.Common.{◌≡◌, ◌≢◌, ℕ, false, eqb, List, [], ◌∷◌, length, map, Bor, Ordering, Decides, sym, ◌∙◌}
 use Rattle.std.specs.List.{AllByRecursion, IsDistinct}
 use Rattle.std.specs.Str.{bytes_eq}
 use Rattle.std.specs.Cmp.{IsTotalOrder, on_total}
@@ -48,6 +48,7 @@ distinct_to (x ∷ xs) h = (apart_to x xs h.0, distinct_to xs h.1)
 pub distinct_by_count : (xs : List (Bor Text)) (set : BTreeSet (Bor Text)) (n : ℕ) → IsFromIterResult by_text xs set → n ≡ btree_set_len set → Decides (eqb n (length xs)) (AreDistinct (map (λ n. n.now) xs))
 distinct_by_count xs set n from len =
     let laws = eq_by_cmp_equiv by_text_total in
-    let size = len ∙ btree_set_len-from_list by_text_total xs set from in
-    (λ t. distinct_from xs (IsDistinct-from_count laws xs (sym size ∙ (Decides-eqb n (length xs)).0 t)),
-        λ d. (Decides-eqb n (length xs)).1 (size ∙ distinct_count-from_IsDistinct laws xs (distinct_to xs d)))
+    let size = len ∙ btree_set_len-from_list by_text_total xs set from in (
+      λ t. distinct_from xs (IsDistinct-from_count laws xs (sym size ∙ (Decides-eqb n (length xs)).0 t)),
+      λ d. (Decides-eqb n (length xs)).1 (size ∙ distinct_count-from_IsDistinct laws xs (distinct_to xs d)),
+    )

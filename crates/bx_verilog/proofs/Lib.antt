@@ -3,3 +3,4 @@ pub mod Once
 pub mod Apart
 pub mod Ports
 pub mod Ends
+pub mod Whole

@@ -4,7 +4,6 @@ use Rattle.std.specs.List.{flat_map}
 use Rattle.std.proofs.lemmas.List.{append_cancel_left, append-nil}
 use Rattle.std.proofs.lemmas.List.Concat.{flat_map-append}
 use Rattle.bx_logic.specs.declared.op.Op.{Op}
-use Rattle.bx_logic.specs.declared.op.Op.TheVariants.{Buf, Not}
 use Rattle.bx_verilog.specs.Module.{Text}
 use Rattle.bx_verilog.specs.Chain.{Statement, IsName, IsUnary, opening, statement_text, last_net}
 use Rattle.bx_verilog.specs.Statements.{IsReading, AreInTurn}
@@ -17,7 +16,7 @@ tail s rest = s.source ++ (codes "); " ++ rest)
 spread : (o t m s c rest : Text) → o ++ t ++ m ++ s ++ c ++ rest ≡ o ++ (t ++ (m ++ (s ++ (c ++ rest))))
 spread o t m s c rest = simp append_assoc
 
-parts : (s : Statement) (rest : Text) → statement_text s ++ rest ≡ opening s.op ++ (s.target ++ (codes ", " ++ tail s rest))
+pub parts : (s : Statement) (rest : Text) → statement_text s ++ rest ≡ opening s.op ++ (s.target ++ (codes ", " ++ tail s rest))
 parts s rest = spread (opening s.op) s.target (codes ", ") s.source (codes "); ") rest
 
 abbrev first : Text → ℕ

@@ -1,5 +1,5 @@
 -- A name before a mark is the longest run of letters and digits, and so there is one at most.
-use Rattle.std.proofs.Common.{◌≡◌, ℕ, ◌≤◌, Bool, ◌||◌, List, [], ◌∷◌, ◌++◌, length, take, drop, map, IsTrue, Decides, refl, sym, ap, ◌∙◌, arith}
+use Rattle.std.proofs.Common.{◌≡◌, Bool, ◌||◌, List, [], ◌∷◌, ◌++◌, length, take, drop, map, IsTrue, Decides, refl, sym, ap, ◌∙◌, arith}
 use Rattle.std.specs.Char.{is_ascii_alphanumeric}
 use Rattle.std.specs.List.{AllByRecursion, list_any, prefix_len, Contains}
 use Rattle.std.specs.Str.{bytes_eq}

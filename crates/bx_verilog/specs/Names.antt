@@ -1,5 +1,5 @@
 -- Where a name ends: at a byte that no name has.
-use Rattle.std.specs.Prelude.{◌≡◌, List, [], ◌∷◌, false}
+use Rattle.std.specs.Prelude.{◌≡◌, [], ◌∷◌, false}
 use Rattle.std.specs.Char.{is_ascii_alphanumeric}
 use Rattle.bx_verilog.specs.Module.{Text}
 

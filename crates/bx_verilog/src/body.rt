@@ -27,7 +27,10 @@ fn end_of<'a>(net: &'a [u8], gates: &[Gate<'a>]) -> &'a [u8]
 fn inversions(gates: &[Gate]) -> usize
     ensures { result ≡ inversions (all_written gates.now) }
 {
-    gates.iter().filter(|gate| matches!(gate.op, Op::Not)).count()
+    gates
+        .iter()
+        .filter(|gate| matches!(gate.op, Op::Not))
+        .count()
 }
 
 /// How many of the statements are `not`, where they are the body of a chain between these nets.

@@ -1,12 +1,20 @@
 //! The reader of the first form of module: a chain of `not` and `buf` from one input to one output.
-ghost use Rattle.std.specs.Prelude.{◌≡◌, List, ℕ, IfOk, IsErrOf};
-ghost use Rattle.bx_verilog.specs.Chain.{IsChain, spelling, inversions};
+//! It tells a chain from everything else, by one pass over the bytes, and keeps the names of the
+//! ports and the number of `not`.
+ghost use Rattle.std.specs.Prelude.{◌≡◌, IfOk, IsErrOf};
+ghost use Rattle.bx_verilog.specs.Chain.{IsChain, spelling};
 ghost use Rattle.bx_verilog.specs.Chain.{Chain as Written};
 ghost use Rattle.bx_verilog.specs.Reads.{Shows};
 
+use crate::body::{inversions_between, newline_at};
 use crate::fault::ChainFault;
-use bx_logic::Name;
+use crate::heading::heading_at;
+use crate::statements::statements_at;
+use bx_logic::{Name, NoMemory};
 use std::alloc::Global;
+
+/// The longest text, in bytes.
+const MOST_BYTES: usize = 1_048_576;
 
 /// What is known of a chain once it is read.
 #[derive(Debug, Drop)]
@@ -21,6 +29,12 @@ pub struct Chain {
     pub inversions: u32,
 }
 
+fn name_of(alloc: Global, bytes: &[u8]) -> Result<Name, NoMemory>
+    ensures { IfOk result (λ name. name ≡ bytes.now) }
+{
+    Ok(Name::new(bytes.to_vec(alloc)?))
+}
+
 /// Reads a chain, from the first byte of the text to the last.
 pub fn read_chain(alloc: Global, text: &[u8]) -> Result<Chain, ChainFault>
     // What is read is spelled so, each byte of it.
@@ -28,7 +42,21 @@ pub fn read_chain(alloc: Global, text: &[u8]) -> Result<Chain, ChainFault>
     // What is spelled so is read, unless memory runs out.
     ensures refused { IsErrOf result ChainFault.NotAChain → (w : Written) → IsChain w → text.now ≡ spelling w → ⊥ }
 {
-    let _ = alloc;
-    let _ = text;
-    Err(ChainFault::NoMemory)
+    if text.len() > MOST_BYTES {
+        return Err(ChainFault::NotAChain);
+    }
+    let Some((heading, body)) = heading_at(text) else {
+        return Err(ChainFault::NotAChain);
+    };
+    let (gates, rest) = statements_at(alloc, body, heading.input)?;
+    let Some(_newline) = newline_at(rest) else {
+        return Err(ChainFault::NotAChain);
+    };
+    let inversions = inversions_between(alloc, heading.input, heading.output, &gates)?;
+    Ok(Chain {
+        name: name_of(alloc, heading.name)?,
+        input: name_of(alloc, heading.input)?,
+        output: name_of(alloc, heading.output)?,
+        inversions,
+    })
 }

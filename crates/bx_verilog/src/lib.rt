@@ -5,6 +5,7 @@ mod body;
 pub mod chain;
 pub mod fault;
 mod heading;
+pub mod laws;
 mod names;
 mod nets;
 pub mod reserved;

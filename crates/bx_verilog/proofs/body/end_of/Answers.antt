@@ -1,4 +1,4 @@
-use Rattle.std.proofs.Common.{◌≡◌, ap, ◌∙◌, arith}
+use Rattle.std.proofs.Common.{ap, ◌∙◌, arith}
 use Rattle.bx_verilog.specs.declared.statements.Gate.{Gate}
 use Rattle.bx_verilog.proofs.Ends.{end_at}
 use Rattle.bx_verilog.proofs.body.end_of.Goals as goal

@@ -1,4 +1,4 @@
-use Rattle.std.proofs.Common.{◌++◌, codes, sym, ◌∙◌}
+use Rattle.std.proofs.Common.{sym, ◌∙◌}
 use Rattle.std.proofs.lemmas.List.{append_cancel_left}
 use Rattle.bx_verilog.proofs.Ports.{declared}
 use Rattle.bx_verilog.proofs.heading.after_declaration.Goals as goal

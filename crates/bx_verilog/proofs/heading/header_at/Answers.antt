@@ -1,4 +1,4 @@
-use Rattle.std.proofs.Common.{◌++◌, codes, refl, sym, ◌∙◌}
+use Rattle.std.proofs.Common.{codes, refl, sym, ◌∙◌}
 use Rattle.std.proofs.lemmas.List.{append_cancel_left}
 use Rattle.bx_verilog.proofs.Runs.{name_once}
 use Rattle.bx_verilog.proofs.Ports.{headed, after_name, after_input}

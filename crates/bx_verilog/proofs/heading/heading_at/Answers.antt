@@ -1,4 +1,4 @@
-use Rattle.std.proofs.Common.{◌++◌, codes, sym, ◌∙◌}
+use Rattle.std.proofs.Common.{codes, sym, ◌∙◌}
 use Rattle.std.proofs.lemmas.List.{append_cancel_left}
 use Rattle.bx_verilog.specs.Chain.{declaration}
 use Rattle.bx_verilog.proofs.Ports.{heading_parts, declarations}

@@ -1,5 +1,4 @@
 use Rattle.std.proofs.Common.{subst, sym, Bool, Decides}
-use Rattle.std.specs.List.{Contains}
 use Rattle.bx_verilog.specs.declared.reserved.TheConstants.{RESERVED}
 use Rattle.bx_verilog.specs.Chain.{IsReserved}
 use Rattle.bx_verilog.proofs.Runs.{one_of}

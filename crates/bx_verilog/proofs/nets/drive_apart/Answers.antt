@@ -1,4 +1,4 @@
-use Rattle.std.proofs.Common.{◌≡◌, ◌∷◌, ◌↔◌, IsTrue, IfOk, List, map, take, length, subst, ap, ◌∙◌, arith}
+use Rattle.std.proofs.Common.{◌≡◌, ◌∷◌, ◌↔◌, IsTrue, IfOk, List, map, take, subst, ◌∙◌, arith}
 use Rattle.std.proofs.lemmas.List.{take_all}
 use Rattle.bx_verilog.specs.Module.{Text}
 use Rattle.bx_verilog.specs.Chain.{AreDistinct, targets}

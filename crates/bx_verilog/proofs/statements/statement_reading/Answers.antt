@@ -1,7 +1,7 @@
-use Rattle.std.proofs.Common.{◌≡◌, ◌++◌, codes, sym, ap, ◌∙◌}
+use Rattle.std.proofs.Common.{◌++◌, codes, sym, ap, ◌∙◌}
 use Rattle.std.proofs.lemmas.List.{append_cancel_left}
 use Rattle.bx_verilog.specs.Chain.{opening}
-use Rattle.bx_verilog.proofs.Once.{after_target, tail}
+use Rattle.bx_verilog.proofs.Once.{after_target}
 use Rattle.bx_verilog.proofs.statements.statement_reading.Goals as goal
 
 pub returns-in_err-after_net-clause-none : goal.returns-in_err-after_net-clause-none

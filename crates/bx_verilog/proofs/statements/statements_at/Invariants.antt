@@ -1,7 +1,5 @@
-use Rattle.std.proofs.Common.{◌≡◌, ◌++◌, length}
-use Rattle.std.specs.List.{flat_map}
-use Rattle.bx_verilog.specs.Chain.{statement_text, last_net}
-use Rattle.bx_verilog.specs.Statements.{AreInTurn, all_written}
+use Rattle.std.proofs.Common.{length}
+use Rattle.bx_verilog.specs.Statements.{all_written}
 use Rattle.bx_verilog.proofs.Once.{StandAt}
 use Rattle.bx_verilog.proofs.statements.statements_at.Given as goal
 

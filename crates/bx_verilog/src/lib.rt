@@ -13,3 +13,6 @@ mod statements;
 
 pub use chain::{Chain, read_chain};
 pub use fault::ChainFault;
+
+#[cfg(test)]
+mod tests;

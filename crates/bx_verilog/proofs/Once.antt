@@ -62,7 +62,7 @@ last_net_push net [] s = refl
 last_net_push net (t ∷ ts) s = last_net_push t.target ts s
 
 flat_push : (ss : List Statement) (s : Statement) (rest : Text) → flat_map statement_text (ss ++ s ∷ []) ++ rest ≡ flat_map statement_text ss ++ (statement_text s ++ rest)
-flat_push ss s rest = rw (flat_map-append statement_text ss (s ∷ []), append-nil, append_assoc) refl
+flat_push ss s rest = rw (flat_map-append statement_text ss (s ∷ []), append-nil) (append_assoc (flat_map statement_text ss) (statement_text s) rest)
 
 -- one more statement
 pub stands_more : (net text : Text) (ss : List Statement) (last rest : Text) (s : Statement) (after : Text) → StandAt net text ss last rest → IsReading last s → rest ≡ statement_text s ++ after → StandAt net text (ss ++ s ∷ []) s.target after

@@ -39,9 +39,9 @@ pub record SamePorts (m a y m' a' y' : Text) : Type 0 where
 pub header_once : (m a y m' a' y' rest rest' : Text) → AreNames m a y → AreNames m' a' y' → header m a y ++ rest ≡ header m' a' y' ++ rest' → SamePorts m a y m' a' y' × (rest ≡ rest')
 header_once m a y m' a' y' rest rest' p q e =
     let f = append_cancel_left (codes "module ") _ _ (sym (headed m a y rest) ∙ e ∙ headed m' a' y' rest') in
-    let name = name_once (codes "(") m m' (after_name a y rest) (after_name a' y' rest') refl p.name q.name f in
-    let input = name_once (codes ", ") a a' (after_input y rest) (after_input y' rest') refl p.input q.input name.1 in
-    let output = name_once (codes "); ") y y' rest rest' refl p.output q.output input.1 in
+    let name = name_once (codes "(") m m' (after_name a y rest) (after_name a' y' rest') refl p.of_module q.of_module f in
+    let input = name_once (codes ", ") a a' (after_input y rest) (after_input y' rest') refl p.of_input q.of_input name.1 in
+    let output = name_once (codes "); ") y y' rest rest' refl p.of_output q.of_output input.1 in
     (record { name = name.0; input = input.0; output = output.0 }, output.1)
 
 -- behind a header that was read stand the declarations of its ports

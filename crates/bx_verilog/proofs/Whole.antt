@@ -62,7 +62,7 @@ last_named net [] n h = n
 last_named net (s ∷ ss) n h = last_named s.target ss h.0 h.1
 
 pub ports_named : (w : Chain) → IsChain w → AreNames w.name w.input w.output
-ports_named w c = record { name = c.name; input = c.input; output = subst IsName c.ends (last_named w.input w.statements c.input c.nets) }
+ports_named w c = record { of_module = c.name; of_input = c.input; of_output = subst IsName c.ends (last_named w.input w.statements c.input c.nets) }
 
 pub regroup : (w : Chain) → spelling w ≡ heading w.name w.input w.output ++ (flat_map statement_text w.statements ++ ending w.newline)
 regroup w = append_assoc (heading w.name w.input w.output) (flat_map statement_text w.statements) (ending w.newline)
@@ -102,8 +102,8 @@ pub is_chain : (text m a y : Text) (ss : List Statement) (rest : Text) (newline 
 is_chain text m a y ss rest newline r b e short =
     let spelled : text ≡ spelling (chain_of m a y ss newline) = r.spelled ∙ ap (λ end. heading m a y ++ (flat_map statement_text ss ++ end)) e ∙ sym (regroup (chain_of m a y ss newline)) in (
       record {
-        name = r.names.name;
-        input = r.names.input;
+        name = r.names.of_module;
+        input = r.names.of_input;
         nets = named_of a ss r.turn;
         unary = unary_of a ss r.turn;
         some = b.some;

@@ -4,10 +4,10 @@ use Rattle.bx_verilog.specs.Module.{Text}
 use Rattle.bx_verilog.specs.Chain.{IsName, header, heading}
 
 -- the names of the module, its input and its output are names
-pub record AreNames (m a y : Text) : Type 0 where
-  pub name : IsName m
-  pub input : IsName a
-  pub output : IsName y
+pub record AreNames (name input output : Text) : Type 0 where
+  pub of_module : IsName name
+  pub of_input : IsName input
+  pub of_output : IsName output
 
 abbrev pub HasNames : Heading → Type 0
 HasNames h = AreNames h.name.now h.input.now h.output.now

@@ -1,7 +1,7 @@
 //! What the statements of a chain meet together, once each is read: there is one at least, the last
 //! drives the output, no net is driven twice, and few enough of them are `not`.
-ghost use Rattle.std.specs.Prelude.{◌≡◌, ◌≢◌, IfOk, IsErrOf, MatchOption, Bool};
-ghost use Rattle.bx_verilog.specs.Chain.{last_net, inversions, ending};
+ghost use Rattle.std.specs.Prelude.{◌≡◌, ◌≢◌, IfOk, IsErrOf};
+ghost use Rattle.bx_verilog.specs.Chain.{last_net, inversions};
 ghost use Rattle.bx_verilog.specs.Statements.{IsBody, all_written};
 
 use crate::fault::ChainFault;
@@ -51,14 +51,4 @@ pub fn inversions_between(
         return Err(ChainFault::NotAChain);
     }
     Ok(count as u32)
-}
-
-/// Whether a line feed follows the last word, where the text is the end of a module.
-pub fn newline_at(text: &[u8]) -> Option<bool>
-    ensures { MatchOption result ((newline : Bool) → text.now ≢ ending newline) (λ newline. text.now ≡ ending newline) }
-{
-    if text == b"endmodule".as_slice() {
-        return Some(false);
-    }
-    (text == b"endmodule\n".as_slice()).then_some(true)
 }

@@ -1,12 +1,12 @@
 //! The reader of the first form of module: a chain of `not` and `buf` from one input to one output.
 //! It tells a chain from everything else, by one pass over the bytes, and keeps the names of the
 //! ports and the number of `not`.
-ghost use Rattle.std.specs.Prelude.{◌≡◌, IfOk, IsErrOf};
-ghost use Rattle.bx_verilog.specs.Chain.{IsChain, spelling};
+ghost use Rattle.std.specs.Prelude.{◌≡◌, ◌↔◌, Bool, IfOk, IsErrOf, IsTrue};
+ghost use Rattle.bx_verilog.specs.Chain.{IsChain, ending, spelling};
 ghost use Rattle.bx_verilog.specs.Chain.{Chain as Written};
 ghost use Rattle.bx_verilog.specs.Reads.{Shows};
 
-use crate::body::{inversions_between, newline_at};
+use crate::body::inversions_between;
 use crate::fault::ChainFault;
 use crate::heading::heading_at;
 use crate::statements::statements_at;
@@ -29,6 +29,13 @@ pub struct Chain {
     pub inversions: u32,
 }
 
+/// Whether the text is the end of a module, with a line feed or without.
+fn is_ending(text: &[u8]) -> bool
+    ensures { IsTrue result ↔ ((newline : Bool) × (text.now ≡ ending newline)) }
+{
+    matches!(text, b"endmodule" | b"endmodule\n")
+}
+
 fn name_of(alloc: Global, bytes: &[u8]) -> Result<Name, NoMemory>
     ensures { IfOk result (λ name. name ≡ bytes.now) }
 {
@@ -49,9 +56,9 @@ pub fn read_chain(alloc: Global, text: &[u8]) -> Result<Chain, ChainFault>
         return Err(ChainFault::NotAChain);
     };
     let (gates, rest) = statements_at(alloc, body, heading.input)?;
-    let Some(_newline) = newline_at(rest) else {
+    if !is_ending(rest) {
         return Err(ChainFault::NotAChain);
-    };
+    }
     let inversions = inversions_between(alloc, heading.input, heading.output, &gates)?;
     Ok(Chain {
         name: name_of(alloc, heading.name)?,

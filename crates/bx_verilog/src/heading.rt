@@ -5,7 +5,8 @@ ghost use Rattle.bx_verilog.specs.Module.{Text};
 ghost use Rattle.bx_verilog.specs.Chain.{declaration, header, heading};
 ghost use Rattle.bx_verilog.specs.Headings.{AreNames, HasNames, header_of, heading_of};
 
-use crate::names::{name_before, strip};
+use crate::front::strip;
+use crate::names::name_before;
 
 /// The names in a heading.
 #[derive(Clone, Copy)]
@@ -18,10 +19,10 @@ pub struct Heading<'a> {
     pub output: &'a [u8],
 }
 
-/// The text after `module M(A, Y); ` at the front of the text, with its names.
+/// The names in the `module M(A, Y); ` at the front of the text, and the text after it.
 fn header_at(text: &[u8]) -> Option<(Heading<'_>, &[u8])>
     ensures found { IfSome result (λ r. HasNames r.0 × (text.now ≡ header_of r.0 ++ r.1.now)) }
-    ensures none { IfNone result ((m a y rest : Text) → AreNames m a y → text.now ≢ header m a y ++ rest) }
+    ensures none { IfNone result ((name input output rest : Text) → AreNames name input output → text.now ≢ header name input output ++ rest) }
 {
     let after_module = strip(text, b"module ")?;
     let (name, after_name) = name_before(after_module, b"(")?;
@@ -45,10 +46,10 @@ fn after_declaration<'a>(text: &'a [u8], direction: &[u8], port: &[u8]) -> Optio
     Some(rest)
 }
 
-/// The heading at the front of the text, and the text after it.
+/// The names in the heading at the front of the text, and the text after it.
 pub fn heading_at(text: &[u8]) -> Option<(Heading<'_>, &[u8])>
     ensures found { IfSome result (λ r. HasNames r.0 × (text.now ≡ heading_of r.0 ++ r.1.now)) }
-    ensures none { IfNone result ((m a y rest : Text) → AreNames m a y → text.now ≢ heading m a y ++ rest) }
+    ensures none { IfNone result ((name input output rest : Text) → AreNames name input output → text.now ≢ heading name input output ++ rest) }
 {
     let (heading, after_header) = header_at(text)?;
     let after_input = after_declaration(after_header, b"input ", heading.input)?;

@@ -4,6 +4,7 @@
 mod body;
 pub mod chain;
 pub mod fault;
+mod front;
 mod heading;
 pub mod laws;
 mod names;

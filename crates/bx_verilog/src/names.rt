@@ -2,7 +2,7 @@
 //! A name is read up to a mark, a text that begins with a byte that no name has, so a name is the
 //! longest run of letters and digits and can be read in one way only. What a name names is left to
 //! the readers of what stands around it.
-ghost use Rattle.std.specs.Prelude.{◌≡◌, ◌≢◌, ◌++◌, ◌↔◌, List, ℕ, IsTrue, IfSome, IfNone, MatchOption};
+ghost use Rattle.std.specs.Prelude.{◌≡◌, ◌≢◌, ◌++◌, ◌↔◌, List, ℕ, IsTrue, IfSome, IfNone};
 ghost use Rattle.std.specs.Char.{is_ascii_alphanumeric};
 ghost use Rattle.std.specs.List.{AllByRecursion, list_any, prefix_len};
 ghost use Rattle.std.specs.Str.{bytes_eq};
@@ -10,6 +10,7 @@ ghost use Rattle.bx_verilog.specs.Module.{Text};
 ghost use Rattle.bx_verilog.specs.Chain.{IsName, IsReserved};
 ghost use Rattle.bx_verilog.specs.Names.{IsMark};
 
+use crate::front::strip;
 use crate::reserved::RESERVED;
 
 /// The longest name, in bytes.
@@ -52,13 +53,6 @@ fn run_len(text: &[u8]) -> usize
     text.iter()
         .take_while(|b| b.is_ascii_alphanumeric())
         .count()
-}
-
-/// The text after a front, where it begins with it.
-pub fn strip<'a>(text: &'a [u8], front: &[u8]) -> Option<&'a [u8]>
-    ensures { MatchOption result ((rest : Text) → text.now ≢ front.now ++ rest) (λ rest. text.now ≡ front.now ++ rest.now) }
-{
-    text.strip_prefix(front)
 }
 
 /// The name that stands before a mark at the front of the text, and the text after the mark.

@@ -8,7 +8,8 @@ ghost use Rattle.bx_verilog.specs.Module.{Text};
 ghost use Rattle.bx_verilog.specs.Chain.{Statement, IsUnary, opening, statement_text, last_net};
 ghost use Rattle.bx_verilog.specs.Statements.{IsReading, AreInTurn, written, all_written};
 
-use crate::names::{name_before, strip};
+use crate::front::strip;
+use crate::names::name_before;
 use bx_logic::{NoMemory, Op};
 use std::alloc::Global;
 

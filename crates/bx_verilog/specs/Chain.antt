@@ -33,20 +33,33 @@ pub record Chain : Type 0 where
   pub statements : List Statement
   pub newline : Bool
 
+-- what stands before the net that a gate drives
+abbrev pub opening : Op → Text
+opening op = keyword op ++ codes " ("
+
 abbrev pub statement_text : Statement → Text
-statement_text s = keyword s.op ++ codes " (" ++ s.target ++ codes ", " ++ s.source ++ codes "); "
+statement_text s = opening s.op ++ s.target ++ codes ", " ++ s.source ++ codes "); "
 
-abbrev pub heading : Chain → Text
-heading c =
-    codes "module " ++ c.name ++ codes "(" ++ c.input ++ codes ", " ++ c.output ++ codes "); "
-    ++ codes "input " ++ c.input ++ codes "; " ++ codes "output " ++ c.output ++ codes "; "
+abbrev pub header : Text → Text → Text → Text
+header name input output =
+    codes "module " ++ name ++ codes "(" ++ input ++ codes ", " ++ output ++ codes "); "
 
-abbrev pub ending : Chain → Text
-ending c = codes "endmodule" ++ (if c.newline then 10 ∷ [] else [])
+-- a port is declared by its direction
+abbrev pub declaration : Text → Text → Text
+declaration direction port = direction ++ port ++ codes "; "
+
+-- what stands before the statements of a module with this name, input and output
+abbrev pub heading : Text → Text → Text → Text
+heading name input output =
+    header name input output ++ declaration (codes "input ") input ++ declaration (codes "output ") output
+
+-- the end, with a line feed or without
+abbrev pub ending : Bool → Text
+ending newline = codes "endmodule" ++ (if newline then 10 ∷ [] else [])
 
 -- the one spelling
 abbrev pub spelling : Chain → Text
-spelling c = heading c ++ flat_map statement_text c.statements ++ ending c
+spelling c = heading c.name c.input c.output ++ flat_map statement_text c.statements ++ ending c.newline
 
 -- the operation reads one net
 abbrev pub IsUnary : Op → Type 0

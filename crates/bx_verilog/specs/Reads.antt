@@ -1,5 +1,5 @@
 -- What the reader of the first form gives of what is written.
-use Rattle.std.specs.Prelude.{◌≡◌, ℕ}
+use Rattle.std.specs.Prelude.{◌≡◌}
 use Rattle.bx_verilog.specs.Chain as written
 use Rattle.bx_verilog.specs.declared.chain.Chain.{Chain}
 

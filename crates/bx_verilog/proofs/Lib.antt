@@ -1,0 +1,6 @@
+pub mod Runs
+pub mod Once
+pub mod Apart
+pub mod Ports
+pub mod Ends
+pub mod Whole

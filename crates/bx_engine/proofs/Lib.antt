@@ -15,3 +15,6 @@ pub mod Examples
 pub mod FormTable
 pub mod Tiles
 pub mod Flow
+pub mod Endings
+pub mod Serving
+pub mod Clauses

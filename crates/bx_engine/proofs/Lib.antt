@@ -18,3 +18,4 @@ pub mod Flow
 pub mod Endings
 pub mod Serving
 pub mod Clauses
+pub mod Answers

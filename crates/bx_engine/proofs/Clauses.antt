@@ -1,21 +1,17 @@
 -- What each clause of a run says, from how the run ended.
 use Rattle.std.proofs.Common.{◌≡◌, ℕ, List, Option, Some, None, sym, ◌∙◌, ap, subst, refl}
 use Rattle.std.specs.Prelude.{String, option_and_then}
-use Rattle.bx_desk.specs.Desk.{Files, Counts, Rose, Adds, AddsFront}
+use Rattle.bx_desk.specs.Desk.{Files, Counts, Adds, AddsFront}
 use Rattle.bx_verilog.specs.Module.{Text}
 use Rattle.bx_verilog.specs.Chain.{Chain, IsChain, spelling, inversions, module_of}
 use Rattle.bx_verilog.proofs.Whole.{chain_once}
 use Rattle.bx_engine.specs.declared.grid.Ratio.{Ratio}
 use Rattle.bx_engine.specs.declared.status.Status.{Status}
-use Rattle.bx_engine.specs.declared.status.Status.TheVariants.{Found, Refused, ReadFault, WriteFault, NoMemory, Words}
-use Rattle.bx_engine.specs.declared.status.InputFault.TheVariants.{NotBuilt}
-use Rattle.bx_engine.specs.declared.status.WordFault.TheVariants.{Command}
+use Rattle.bx_engine.specs.declared.status.Status.TheVariants.{Found, WriteFault}
 use Rattle.bx_engine.specs.declared.status.Which.{Which}
-use Rattle.bx_engine.specs.declared.status.Which.TheVariants.{NetFile, Output}
 use Rattle.bx_engine.specs.Statuses.{IsSettled}
-use Rattle.bx_engine.specs.Texts.{refusal_text, word_fault_text, input_fault_text}
 use Rattle.bx_engine.specs.Columns.{column_pins}
-use Rattle.bx_engine.specs.Runs.{net_word, net_text, network_of, layout_of, report_of, IsLayout, IsOfNoForm, HasText, IsAnswer, no_command, no_form, laid_out}
+use Rattle.bx_engine.specs.Runs.{net_word, net_text, network_of, layout_of, report_of, IsLayout, HasText, IsAnswer, no_command, no_form, laid_out}
 use Rattle.bx_engine.specs.Serves.{Outcome, answered, unsaid, unread, no_memory}
 use Rattle.bx_engine.proofs.Columns.{column-sound, column-whole}
 use Rattle.bx_engine.proofs.Layouts.{column-computes, column-pins}

@@ -1,8 +1,8 @@
 -- A text that was said and handed on, and what the end of a run says then.
-use Rattle.std.proofs.Common.{◌≡◌, ℕ, List, [], ◌∷◌, ◌++◌, ◌≤◌, Option, Result, Ok, Err, sym, ◌∙◌, ap, subst, refl, arith}
+use Rattle.std.proofs.Common.{◌≡◌, ℕ, List, [], ◌∷◌, ◌++◌, ◌≤◌, Option, Result, Ok, Err, sym, ◌∙◌, subst, arith}
 use Rattle.std.proofs.lemmas.List.{append-nil}
 use Rattle.std.specs.Prelude.{codes, OnErr}
-use Rattle.bx_desk.specs.Desk.{Files, Counts, Rose, SayCounts, Adds, AddsUpTo, AddsFront}
+use Rattle.bx_desk.specs.Desk.{Files, Counts, Rose, Adds, AddsUpTo}
 use Rattle.bx_desk.specs.Pieces.{HandsOn}
 use Rattle.bx_desk.specs.declared.desk.Failed.{Failed}
 use Rattle.bx_desk.proofs.Said.{adds_piece, adds_front}

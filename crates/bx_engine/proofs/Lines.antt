@@ -1,5 +1,5 @@
 -- Lines as they are put out, word by word, are the lines that the definitions name.
-use Rattle.std.proofs.Common.{◌≡◌, ℕ, ◌+◌, ◌/◌, ◌%◌, List, [], ◌∷◌, ◌++◌, length, map, replicate, Option, sym, ◌∙◌, ap, refl, arith, append_assoc}
+use Rattle.std.proofs.Common.{◌≡◌, ℕ, ◌+◌, ◌%◌, List, [], ◌∷◌, ◌++◌, length, map, replicate, Option, sym, ◌∙◌, ap, refl, arith, append_assoc}
 use Rattle.std.specs.Prelude.{codes, decimal}
 use Rattle.std.proofs.lemmas.List.{append-nil, length-replicate, length_push}
 use Rattle.std.proofs.lemmas.List.Concat.{flat_map-append}
@@ -9,9 +9,8 @@ use native.Mathlib.Nat.{mod-one, div-one}
 use Rattle.bx_verilog.specs.Module.{Text}
 use Rattle.bx_verilog.specs.declared.chain.Chain.{Chain}
 use Rattle.bx_engine.specs.declared.say.Word.{Word}
-use Rattle.bx_engine.specs.declared.say.Word.TheVariants.{Number}
 use Rattle.bx_engine.specs.Words.{word_text, further_text}
-use Rattle.bx_engine.specs.Texts.{spaced, lines_text, module_line, nodes_line, found_line, pin_line, row_line, tile_name, report_lines, report_text}
+use Rattle.bx_engine.specs.Texts.{spaced, lines_text, module_line, nodes_line, found_line, pin_line, row_line, tile_name, report_text}
 use Rattle.bx_engine.specs.Grids.{FormGrid}
 use Rattle.bx_engine.specs.Networks.{Network}
 use Rattle.bx_engine.specs.Columns.{column}

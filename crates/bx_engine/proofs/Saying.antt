@@ -1,9 +1,9 @@
 -- Texts said one after another through one piece.
-use Rattle.std.proofs.Common.{◌≡◌, ℕ, ◌+◌, ◌-◌, ◌^◌, ◌≤◌, ◌<◌, min, length, take, drop, get_or, List, [], ◌++◌, Option, Result, Ok, Err, sym, ◌∙◌, ap, subst, refl, arith, append_assoc}
+use Rattle.std.proofs.Common.{◌≡◌, ℕ, ◌+◌, ◌≤◌, ◌<◌, length, take, get_or, List, [], ◌++◌, Option, Result, Ok, Err, sym, ◌∙◌, ap, subst, refl, arith, append_assoc}
 use Rattle.std.proofs.lemmas.List.{append-nil}
 use Rattle.std.proofs.lemmas.Result.{on_err_weaker}
 use Rattle.std.specs.Result.{IsErr, OnErr}
-use Rattle.bx_desk.specs.Desk.{Files, Counts, Rose, SayCounts, Adds, AddsUpTo, AddsFront}
+use Rattle.bx_desk.specs.Desk.{Files, Counts, Rose, AddsUpTo, AddsFront}
 use Rattle.bx_desk.specs.Pieces.{HandsOn}
 use Rattle.bx_desk.specs.declared.desk.Failed.{Failed}
 use Rattle.bx_desk.proofs.Said.{adds-adds, adds_nothing}

@@ -1,22 +1,21 @@
 -- From how a run's steps end to the answer that the words and the file give.
-use Rattle.std.proofs.Common.{◌≡◌, ℕ, ◌+◌, ◌≤◌, List, [], ◌∷◌, Option, Some, None, sym, ◌∙◌, ap, subst, refl, arith}
+use Rattle.std.proofs.Common.{◌≡◌, ℕ, ◌+◌, List, [], ◌∷◌, Option, Some, None, sym, ◌∙◌, ap, subst}
 use Rattle.std.specs.Prelude.{String, IfSome, option_and_then}
-use Rattle.bx_desk.specs.Desk.{Files, Counts, Rose, SayCounts, LoadCounts, Adds, AddsFront, IsFile}
+use Rattle.bx_desk.specs.Desk.{Files, Counts, Rose, IsFile}
 use Rattle.bx_verilog.specs.Module.{Text}
 use Rattle.bx_verilog.specs.Chain as written
 use Rattle.bx_verilog.specs.Reads.{Shows}
 use Rattle.bx_verilog.specs.declared.chain.Chain.{Chain}
 use Rattle.bx_engine.specs.declared.status.Status.{Status}
 use Rattle.bx_engine.specs.declared.status.Status.TheVariants.{Found}
-use Rattle.bx_engine.specs.declared.grid.Ratio.{Ratio}
-use Rattle.bx_engine.specs.Grids.{FormGrid, Pins}
-use Rattle.bx_engine.specs.Columns.{column, column_pins}
+use Rattle.bx_engine.specs.Grids.{FormGrid}
+use Rattle.bx_engine.specs.Columns.{column}
 use Rattle.bx_engine.specs.ChainNetworks.{chain_network}
 use Rattle.bx_engine.specs.Texts.{report_text}
-use Rattle.bx_engine.specs.Reports.{report_shown, pins_shown}
-use Rattle.bx_engine.specs.Runs.{net_word, net_text, report_of, layout_of, IsOfNoForm, HasText, IsAnswer, laid_out, no_form}
-use Rattle.bx_engine.specs.Endings.{Ends, done, failed, EndsSaying, ReadsChain, FileEnds}
-use Rattle.bx_engine.specs.Serves.{Outcome, answered, unsaid, unread, no_memory, Serves}
+use Rattle.bx_engine.specs.Reports.{report_shown}
+use Rattle.bx_engine.specs.Runs.{net_word, net_text, report_of, layout_of, IsOfNoForm, HasText, IsAnswer, laid_out}
+use Rattle.bx_engine.specs.Endings.{Ends, done, failed, EndsSaying, ReadsChain}
+use Rattle.bx_engine.specs.Serves.{Outcome, answered, unsaid, Serves}
 
 -- the text of the file that the words name
 module _ {A : Type 0} (words : List (String A)) (net : Text) (named : net_word words ≡ Some net) where

@@ -1,5 +1,5 @@
 -- A report as it is put out, line by line.
-use Rattle.std.specs.Prelude.{ℕ, ◌+◌, List, [], ◌∷◌, ◌++◌, map, flat_map, codes}
+use Rattle.std.specs.Prelude.{◌+◌, [], ◌∷◌, ◌++◌, map, flat_map, codes}
 use Rattle.std.specs.List.{range_with_len}
 use Rattle.bx_verilog.specs.Module.{Text}
 use Rattle.bx_verilog.specs.declared.chain.Chain.{Chain}

@@ -1,9 +1,9 @@
 -- What a run is told: its words, and the text that the desk tells to be the file that they name.
-use Rattle.std.specs.Prelude.{◌≡◌, ℕ, ◌+◌, List, [], ◌∷◌, codes, Option, Some, None, option_and_then, if◌then◌else◌, String, string_bytes}
+use Rattle.std.specs.Prelude.{◌≡◌, List, [], ◌∷◌, codes, Option, Some, None, option_and_then, if◌then◌else◌, String, string_bytes}
 use Rattle.std.specs.Str.{bytes_eq}
-use Rattle.bx_desk.specs.Desk.{Files, Adds}
+use Rattle.bx_desk.specs.Desk.{Files}
 use Rattle.bx_verilog.specs.Module.{Text, Module}
-use Rattle.bx_verilog.specs.Chain.{Chain, IsChain, spelling, inversions, module_of}
+use Rattle.bx_verilog.specs.Chain.{Chain, IsChain, spelling, inversions}
 use Rattle.bx_engine.specs.declared.grid.Ratio.{Ratio}
 use Rattle.bx_engine.specs.declared.grid.TheConstants.{DEFAULT_LIMITS}
 use Rattle.bx_engine.specs.Grids.{FormGrid, Pins, IsFormGrid, IsSound, ArePins, Computes}

@@ -5,10 +5,10 @@ use std::alloc::Global;
 use std::test::Fail;
 
 // Words as the program hands them on.
-fn words(alloc: Global, texts: &[&str]) -> Result<Vec<String>, NoMemory> {
+fn words(alloc: Global, line: &str) -> Result<Vec<String>, NoMemory> {
     let mut words = Vec::new(alloc);
-    for text in texts {
-        words.push(String::from_str(alloc, text)?)?;
+    for word in line.split_whitespace() {
+        words.push(String::from_str(alloc, word)?)?;
     }
     Ok(words)
 }
@@ -52,7 +52,7 @@ const ROWS: [(&str, u8, &str); 5] = [
 #[test]
 fn each_module_has_its_report(rt: HostRuntime) -> Result<(), Fail> {
     let alloc = rt.alloc();
-    let design = words(alloc, &["design", "net.v"])?;
+    let design = words(alloc, "design net.v")?;
     for (text, code, said) in ROWS {
         let mut desk = desk_with(alloc, text.as_bytes())?;
         let status = run(&rt, alloc, design.as_slice(), &mut desk, &OpenGate);
@@ -67,7 +67,7 @@ fn each_module_has_its_report(rt: HostRuntime) -> Result<(), Fail> {
 #[test]
 fn a_call_that_fails_is_told(rt: HostRuntime) -> Result<(), Fail> {
     let alloc = rt.alloc();
-    let design = words(alloc, &["design", "net.v"])?;
+    let design = words(alloc, "design net.v")?;
     for (text, _, said) in ROWS {
         let mut unread = desk_with(alloc, text.as_bytes())?;
         unread.fail_at(1, 0)?;
@@ -89,14 +89,14 @@ fn a_call_that_fails_is_told(rt: HostRuntime) -> Result<(), Fail> {
 #[test]
 fn other_words_are_no_command(rt: HostRuntime) -> Result<(), Fail> {
     let alloc = rt.alloc();
-    for texts in [
-        [].as_slice(),
-        ["draw", "net.v"].as_slice(),
-        ["design"].as_slice(),
-        ["design", "net.v", "lib.json"].as_slice(),
-        ["net.v", "design"].as_slice(),
+    for line in [
+        "",
+        "draw net.v",
+        "design",
+        "design net.v lib.json",
+        "net.v design",
     ] {
-        let words = words(alloc, texts)?;
+        let words = words(alloc, line)?;
         let mut desk = desk_with(alloc, b"")?;
         let status = run(&rt, alloc, words.as_slice(), &mut desk, &OpenGate);
         assert_eq!(rt; status, Status::Words(WordFault::Command));
@@ -109,8 +109,8 @@ fn other_words_are_no_command(rt: HostRuntime) -> Result<(), Fail> {
 #[test]
 fn a_file_that_is_missing_or_too_long(rt: HostRuntime) -> Result<(), Fail> {
     let alloc = rt.alloc();
-    let design = words(alloc, &["design", "net.v"])?;
-    let other = words(alloc, &["design", "other.v"])?;
+    let design = words(alloc, "design net.v")?;
+    let other = words(alloc, "design other.v")?;
     let mut desk = desk_with(alloc, &[0; 3])?;
     let missing = run(&rt, alloc, other.as_slice(), &mut desk, &OpenGate);
     assert_eq!(rt; missing, Status::ReadFault(Which::NetFile));

@@ -1,4 +1,4 @@
-use Rattle.std.proofs.Common.{◌≡◌, ap}
+use Rattle.std.proofs.Common.{ap}
 use Rattle.bx_engine.proofs.Saying.{says_first}
 use Rattle.bx_engine.proofs.Endings.{says_ends, says_ends_failed, ends_as}
 use Rattle.bx_engine.specs.declared.status.Status.TheVariants.{Found}

@@ -1,8 +1,8 @@
-use Rattle.std.proofs.Common.{◌≡◌, refl, sym, ◌∙◌, ap, subst, Some, None, Option, List, ℕ}
+use Rattle.std.proofs.Common.{refl, sym, subst}
 use Rattle.bx_engine.specs.declared.engine.NoLayout.{NoLayout}
 use Rattle.bx_engine.specs.Endings.{FileEnds}
 use Rattle.bx_engine.proofs.Serving.{serves, of_no_form, laid}
-use Rattle.bx_engine.specs.Runs.{net_word, no_form, no_command}
+use Rattle.bx_engine.specs.Runs.{no_form, no_command}
 use Rattle.bx_engine.specs.Serves.{unread, no_memory}
 use Rattle.bx_engine.proofs.engine.serve.Goals as goal
 

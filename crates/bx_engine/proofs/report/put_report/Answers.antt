@@ -1,7 +1,5 @@
-use Rattle.std.proofs.Common.{◌≡◌, ◌++◌, ap, ◌∙◌, sym}
-use Rattle.bx_verilog.specs.Module.{Text}
+use Rattle.std.proofs.Common.{◌≡◌, ◌++◌, ap, ◌∙◌}
 use Rattle.bx_engine.specs.Grids.{FormGrid}
-use Rattle.bx_engine.specs.Columns.{column}
 use Rattle.bx_engine.specs.Reports.{head_text, ports_text, rows_text, report_shown}
 use Rattle.bx_engine.proofs.Saying.{says_then, says_failed, says_as}
 use Rattle.bx_engine.proofs.Lines.{report_is}

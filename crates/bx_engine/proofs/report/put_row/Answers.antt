@@ -1,5 +1,3 @@
-use Rattle.std.proofs.Common.{◌≡◌, ℕ, List, [], ◌∷◌, ◌++◌, map, Option, ap, sym, ◌∙◌, refl}
-use Rattle.std.specs.Prelude.{codes, decimal}
 use Rattle.bx_engine.proofs.Saying.{says_then, says_failed, says_as}
 use Rattle.bx_engine.proofs.Lines.{row_is}
 use Rattle.bx_engine.proofs.report.put_row.Goals as goal

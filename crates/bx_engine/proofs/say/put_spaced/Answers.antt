@@ -1,4 +1,3 @@
-use Rattle.std.proofs.Common.{rules}
 use Rattle.bx_engine.proofs.Saying.{says_then, says_failed}
 use Rattle.bx_engine.proofs.say.put_spaced.Goals as goal
 

@@ -1,4 +1,4 @@
-use Rattle.std.proofs.Common.{ℕ, List, ◌∷◌, arith}
+use Rattle.std.proofs.Common.{◌∷◌, arith}
 use Rattle.bx_engine.specs.Words.{word_text}
 use Rattle.bx_engine.proofs.Saying.{says_turn, says_turn_failed}
 use Rattle.bx_engine.proofs.say.put_words.Goals as goal

@@ -15,3 +15,7 @@ pub mod Examples
 pub mod FormTable
 pub mod Tiles
 pub mod Flow
+pub mod Endings
+pub mod Serving
+pub mod Clauses
+pub mod Answers

@@ -66,6 +66,7 @@ ports_are c from to is_from is_to =
 
 -- the whole
 pub report_is : (c : Chain) → head_text c ++ (ports_text c ++ rows_text (column c.inversions)) ≡ report_shown c
+unfolding report_text
 report_is c =
     let g : FormGrid = column c.inversions in
     let N : Network = chain_network c.inversions in

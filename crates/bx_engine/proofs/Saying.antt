@@ -75,3 +75,7 @@ module _ {D : Type 0} (files : D → Option Files) (said : D → Option (List �
   -- the same text in another shape
   pub says_as : {T : Type 0} (old new : D) (r : Result T Failed) (p0 p1 t w : List ℕ) → t ≡ w → Says files said faults old new r p0 p1 t → Says files said faults old new r p0 p1 w
   says_as {T} old new r p0 p1 t w e h = subst (λ (xs : List ℕ). Says {T = T} files said faults old new r p0 p1 xs) e h
+
+  -- a text put into an empty piece
+  pub says_first : {T : Type 0} (old new : D) (r : Result T Failed) (p0 p1 t : List ℕ) → p0 ≡ [] → Says files said faults old new r p0 p1 t → Says files said faults old new r [] p1 t
+  says_first {T} old new r p0 p1 t e h = subst (λ (p : List ℕ). Says {T = T} files said faults old new r p p1 t) e h

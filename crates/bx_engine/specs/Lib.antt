@@ -17,3 +17,4 @@ pub mod Reports
 pub mod Endings
 pub mod FormTable
 pub mod Examples
+pub mod Serves

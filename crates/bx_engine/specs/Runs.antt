@@ -6,7 +6,7 @@ use Rattle.bx_verilog.specs.Module.{Text, Module}
 use Rattle.bx_verilog.specs.Chain.{Chain, IsChain, spelling, inversions, module_of}
 use Rattle.bx_engine.specs.declared.grid.Ratio.{Ratio}
 use Rattle.bx_engine.specs.declared.grid.TheConstants.{DEFAULT_LIMITS}
-use Rattle.bx_engine.specs.Grids.{FormGrid, Pins, IsSound, ArePins, Computes}
+use Rattle.bx_engine.specs.Grids.{FormGrid, Pins, IsFormGrid, IsSound, ArePins, Computes}
 use Rattle.bx_engine.specs.Networks.{Network}
 use Rattle.bx_engine.specs.ChainNetworks.{chain_network}
 use Rattle.bx_engine.specs.Columns.{column, column_pins}
@@ -43,6 +43,7 @@ pub record IsLayout (name : Text) (m : Module) (N : Network) (ratio : Ratio) (re
   pub pins : Pins
   pub printed : report ≡ report_text name N grid pins
   pub sides : grid.ratio ≡ ratio
+  pub whole : IsFormGrid grid
   pub sound : IsSound grid
   pub ports : ArePins grid m pins
   pub computes : Computes grid pins m
@@ -59,5 +60,5 @@ HasText words told text = (told_text : Text) → net_text words told ≡ Some to
 -- the status that the words and the file give, and what is said with it
 pub data IsAnswer {A : Type 0} (words : List (String A)) (told : Option Files) : Status → Text → Type 0 where
   no_command : net_word words ≡ None → IsAnswer words told (Words Command) (refusal_text (word_fault_text Command))
-  no_form : IsOfNoForm words told → IsAnswer words told (Refused NotBuilt) (refusal_text (input_fault_text NotBuilt))
-  laid_out : (c : Chain) → IsChain c → HasText words told (spelling c) → IsAnswer words told (Found (layout_of c).ratio) (report_of c)
+  no_form : (net : Text) → net_word words ≡ Some net → IsOfNoForm words told → IsAnswer words told (Refused NotBuilt) (refusal_text (input_fault_text NotBuilt))
+  laid_out : (net : Text) → net_word words ≡ Some net → (c : Chain) → IsChain c → HasText words told (spelling c) → IsAnswer words told (Found (layout_of c).ratio) (report_of c)

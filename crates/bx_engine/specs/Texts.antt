@@ -49,7 +49,7 @@ report_lines name N g pins =
     ++ map (pin_line (codes "output") g.ratio) pins.outputs
     ++ map (row_line g) (range_with_len 0 g.ratio.h)
 
-abbrev pub report_text : Text → Network → FormGrid → Pins → Text
+unfoldable pub report_text : Text → Network → FormGrid → Pins → Text
 report_text name N g pins = lines_text (report_lines name N g pins)
 
 -- what a refusal names
@@ -59,5 +59,5 @@ word_fault_text Command = codes "words command"
 abbrev pub input_fault_text : InputFault → Text
 input_fault_text NotBuilt = codes "not built"
 
-abbrev pub refusal_text : Text → Text
+unfoldable pub refusal_text : Text → Text
 refusal_text fault = lines_text (spaced (codes "refused") (fault ∷ []) ∷ [])

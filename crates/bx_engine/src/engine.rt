@@ -11,19 +11,22 @@ ghost use Rattle.bx_desk.specs.Pieces.{pending};
 ghost use Rattle.bx_engine.specs.Columns.{column as column_of};
 ghost use Rattle.bx_engine.specs.Reports.{report_shown};
 ghost use Rattle.bx_engine.specs.Runs.{net_word as net_word_of};
-ghost use Rattle.bx_engine.specs.Endings.{EndsSaying, ReadsChain, LoadEnds};
+ghost use Rattle.bx_engine.specs.Endings.{EndsSaying, SpellsChain, ReadsChain, TextEnds, FileEnds};
 ghost use Rattle.bx_engine.specs.declared.grid.Ratio.{Ratio as Sides};
 ghost use Rattle.bx_engine.specs.declared.status.Which.{Which as Place};
 ghost use Rattle.bx_engine.specs.Statuses.{IsSettled};
 ghost use Rattle.bx_engine.specs.Texts.{refusal_text, word_fault_text, input_fault_text};
 ghost use Rattle.bx_engine.specs.Runs.{net_word, net_text, network_of, layout_of, report_of, IsLayout, IsAnswer};
+ghost use Rattle.bx_engine.specs.Serves.{Serves};
 ghost use Rattle.bx_engine.specs.declared.status.Status.{Status as Ending};
 
 use crate::column::column;
+use crate::grid::FormGrid;
 use crate::report::put_report;
 use crate::say::{Word, put_line};
 use crate::status::{InputFault, Status, Which, WordFault};
 use bx_desk::{Desk, Failed, Gate, LoadFault, Piece};
+use bx_logic::NoMemory;
 use bx_verilog::{Chain, ChainFault, read_chain};
 use std::alloc::Global;
 use std::thread::Threads;
@@ -78,15 +81,21 @@ pub fn run<T: Threads + Sync, D: Desk, G: Gate + Sync>(
 
     ensures files_stay { D.files desk.new ≡ D.files desk.old }
 {
+    serve(alloc, words, desk)
+}
+
+// What `run` does, in one clause.
+fn serve<D: Desk>(alloc: Global, words: &[String], desk: &mut D) -> Status
+    ensures { Serves D.files D.said D.faults desk.old desk.new words.now result }
+{
     let Some(net) = net_word(words) else {
         return refuse(desk, "words command", Status::Words(WordFault::Command));
     };
-    match load_chain(alloc, net, desk) {
-        Ok(chain) => design(alloc, &chain, desk),
-        Err(Status::Refused(InputFault::NotBuilt)) => {
-            refuse(desk, "not built", Status::Refused(InputFault::NotBuilt))
-        }
-        Err(status) => status,
+    match lay_out(alloc, net, desk) {
+        Ok(layout) => report(&layout, desk),
+        Err(NoLayout::NotBuilt) => refuse(desk, "not built", Status::Refused(InputFault::NotBuilt)),
+        Err(NoLayout::Unread) => Status::ReadFault(Which::NetFile),
+        Err(NoLayout::NoMemory) => Status::NoMemory,
     }
 }
 
@@ -100,39 +109,65 @@ fn net_word(words: &[String]) -> Option<&str>
     }
 }
 
-// Loads the file and reads its chain. An `Err` is a refusal of the file, or a status after which
-// nothing is to be said.
-fn load_chain<D: Desk>(alloc: Global, net: &str, desk: &mut D) -> Result<Chain, Status>
-    ensures chain { IfOk result (λ chain. ReadsChain (D.files desk.old) net.now chain) }
-    ensures err { IfErr result (λ status. LoadEnds (D.files desk.old) net.now (D.faults desk.old) (D.faults desk.new) status) }
+/// A chain, and the column that it is laid out in.
+#[derive(Debug, Drop)]
+struct Layout {
+    chain: Chain,
+    grid: FormGrid,
+}
+
+/// Why there is no layout of a file. Nothing was said yet.
+#[derive(Clone, Copy, Debug)]
+enum NoLayout {
+    NotBuilt,
+    Unread,
+    NoMemory,
+}
+
+// Loads the file, reads its chain and lays it out. It takes all the memory that a run takes.
+fn lay_out<D: Desk>(alloc: Global, net: &str, desk: &mut D) -> Result<Layout, NoLayout>
+    ensures chain { IfOk result (λ layout. ReadsChain (D.files desk.old) net.now layout.chain) }
+    ensures grid { IfOk result (λ layout. layout.grid ≡ column_of layout.chain.inversions) }
+    ensures err { IfErr result (FileEnds (D.files desk.old) net.now (D.faults desk.old) (D.faults desk.new)) }
     ensures counts { LoadCounts (D.faults desk.old) (D.faults desk.new) }
     ensures files_stay { D.files desk.new ≡ D.files desk.old }
     ensures said_stays { D.said desk.new ≡ D.said desk.old }
 {
     let mut text = Vec::new(alloc);
     match desk.load(net, MODULE_BYTES, &mut text) {
-        Ok(()) => match read_chain(alloc, &text) {
-            Ok(chain) => Ok(chain),
-            Err(ChainFault::NotAChain) => Err(Status::Refused(InputFault::NotBuilt)),
-            Err(ChainFault::NoMemory) => Err(Status::NoMemory),
-        },
-        Err(LoadFault::TooLong) => Err(Status::Refused(InputFault::NotBuilt)),
-        Err(LoadFault::Failed) => Err(Status::ReadFault(Which::NetFile)),
-        Err(LoadFault::NoMemory) => Err(Status::NoMemory),
+        Ok(()) => layout_of_text(alloc, &text),
+        Err(LoadFault::TooLong) => Err(NoLayout::NotBuilt),
+        Err(LoadFault::Failed) => Err(NoLayout::Unread),
+        Err(LoadFault::NoMemory) => Err(NoLayout::NoMemory),
     }
 }
 
-// Lays the chain out in one column, and says the report.
-fn design<D: Desk>(alloc: Global, chain: &Chain, desk: &mut D) -> Status
-    requires { chain.now.inversions ≤ most_inversions }
-    ensures { EndsSaying D.files D.said D.faults desk.old desk.new result (Status.Found (column_of chain.now.inversions).ratio) (report_shown chain.now) }
+// Reads the chain of a text and lays it out.
+fn layout_of_text(alloc: Global, text: &[u8]) -> Result<Layout, NoLayout>
+    ensures chain { IfOk result (λ layout. SpellsChain text.now layout.chain) }
+    ensures grid { IfOk result (λ layout. layout.grid ≡ column_of layout.chain.inversions) }
+    ensures err { IfErr result (TextEnds text.now) }
 {
-    let Ok(grid) = column(alloc, chain.inversions) else {
-        return Status::NoMemory;
+    let chain = match read_chain(alloc, text) {
+        Ok(chain) => chain,
+        Err(ChainFault::NotAChain) => return Err(NoLayout::NotBuilt),
+        Err(ChainFault::NoMemory) => return Err(NoLayout::NoMemory),
     };
+    match column(alloc, chain.inversions) {
+        Ok(grid) => Ok(Layout { chain, grid }),
+        Err(NoMemory) => Err(NoLayout::NoMemory),
+    }
+}
+
+// Says the report of a layout.
+fn report<D: Desk>(layout: &Layout, desk: &mut D) -> Status
+    requires few { layout.now.chain.inversions ≤ most_inversions }
+    requires laid_out { layout.now.grid ≡ column_of layout.now.chain.inversions }
+    ensures { EndsSaying D.files D.said D.faults desk.old desk.new result (Status.Found layout.now.grid.ratio) (report_shown layout.now.chain) }
+{
     let mut piece = Piece::to_say();
-    match put_report(chain, &grid, &mut piece, desk) {
-        Ok(()) => end(piece, desk, Status::Found(grid.ratio())),
+    match put_report(&layout.chain, &layout.grid, &mut piece, desk) {
+        Ok(()) => end(piece, desk, Status::Found(layout.grid.ratio())),
         Err(Failed) => Status::WriteFault(Which::Output),
     }
 }

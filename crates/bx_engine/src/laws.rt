@@ -1,5 +1,6 @@
 //! Laws about the definitions alone, each the clause of a function with an empty body, so that a
 //! reader can trust what the contracts say.
+pub mod answers;
 pub mod grids;
 pub mod networks;
 pub mod orders;

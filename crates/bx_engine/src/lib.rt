@@ -12,3 +12,6 @@ mod status;
 
 pub use engine::{MODULE_BYTES, run};
 pub use status::{InputFault, Status, Which, WordFault};
+
+#[cfg(test)]
+mod tests;

@@ -1,6 +1,7 @@
-use Rattle.std.proofs.Common.{◌≡◌, ℕ, ◌<◌, List, [], ◌∷◌, ◌++◌, map, ◌∙◌, ap, sym, length, get_or, arith, Option}
+use Rattle.std.proofs.Common.{◌≡◌, ℕ, ◌<◌, ◌≤◌, List, [], ◌∷◌, ◌++◌, map, ◌∙◌, ap, sym, length, get_or, arith, Option}
 use Rattle.std.specs.Prelude.{codes, decimal}
-use Rattle.std.specs.List.{range_with_len}
+use Rattle.std.specs.List.{range_with_len, flat_map}
+use Rattle.std.proofs.lemmas.List.{take_all}
 use Rattle.std.proofs.lemmas.List.FromFn.{length-range_with_len, get_or-range_with_len}
 use Rattle.bx_engine.specs.declared.grid.Ratio.{Ratio}
 use Rattle.bx_engine.specs.Grids.{FormGrid}
@@ -32,3 +33,10 @@ loop-y-preserved g c =
     let h : c.loop-y.y < grid.ratio.h = omega (arith, ap (λ (r : Ratio). r.h) c.ratio-y-end.ensures) in
     says_turn _ _ _ _ _ _ _ _ _ _ (λ y. row_line grid y ++ 10 ∷ []) (range_with_len 0 grid.ratio.h) c.loop-y.y 0 (within grid c.loop-y.y h) c.in_ok-put_row.was c.loop-y.invariant
     (says_as _ _ _ _ _ _ _ _ _ _ (line_at grid c.loop-y.y c.row.result.now h c.row.ensures) c.put_row.ensures)
+
+pub returns : goal.returns
+returns g c =
+    let grid : FormGrid = c.args.grid.now in
+    let all : List ℕ = range_with_len 0 grid.ratio.h in
+    let end : length all ≤ c.loop-y.y = omega (arith, length-range_with_len 0 grid.ratio.h, ap (λ (r : Ratio). r.h) c.ratio-y-end.ensures) in
+    says_as _ _ _ _ _ _ _ _ _ _ (ap (flat_map (λ y. row_line grid y ++ 10 ∷ [])) (take_all c.loop-y.y all end)) c.loop-y.invariant

@@ -1,0 +1,17 @@
+use Rattle.bx_engine.proofs.Clauses.{found_only, found, found_said, layout, write_fault_said}
+use Rattle.bx_engine.proofs.engine.run.Goals as goal
+
+pub returns-clause-found_only : goal.returns-clause-found_only
+returns-clause-found_only g c = found_only c.args.words.now (g.D.Desk.files c.args.desk.now) (g.D.Desk.said c.args.desk.now) (g.D.Desk.said c.serve.new.desk) (g.D.Desk.faults c.args.desk.now) (g.D.Desk.faults c.serve.new.desk) c.serve.result c.serve.ensures.outcome
+
+pub returns-clause-found : goal.returns-clause-found
+returns-clause-found g c = found c.args.words.now (g.D.Desk.files c.args.desk.now) (g.D.Desk.said c.args.desk.now) (g.D.Desk.said c.serve.new.desk) (g.D.Desk.faults c.args.desk.now) (g.D.Desk.faults c.serve.new.desk) c.serve.result c.serve.ensures.outcome
+
+pub returns-clause-found_said : goal.returns-clause-found_said
+returns-clause-found_said g c = found_said c.args.words.now (g.D.Desk.files c.args.desk.now) (g.D.Desk.said c.args.desk.now) (g.D.Desk.said c.serve.new.desk) (g.D.Desk.faults c.args.desk.now) (g.D.Desk.faults c.serve.new.desk) c.serve.result c.serve.ensures.outcome
+
+pub returns-clause-layout : goal.returns-clause-layout
+returns-clause-layout g c = layout c.args.words.now (g.D.Desk.files c.args.desk.now) (g.D.Desk.said c.args.desk.now) (g.D.Desk.said c.serve.new.desk) (g.D.Desk.faults c.args.desk.now) (g.D.Desk.faults c.serve.new.desk) c.serve.result c.serve.ensures.outcome
+
+pub returns-clause-write_fault_said : goal.returns-clause-write_fault_said
+returns-clause-write_fault_said g c = write_fault_said c.args.words.now (g.D.Desk.files c.args.desk.now) (g.D.Desk.said c.args.desk.now) (g.D.Desk.said c.serve.new.desk) (g.D.Desk.faults c.args.desk.now) (g.D.Desk.faults c.serve.new.desk) c.serve.result c.serve.ensures.outcome

@@ -1,0 +1,5 @@
+use Rattle.bx_engine.proofs.Answers.{one_answer_of_words, one_answer_of_text}
+use Rattle.bx_engine.proofs.laws.answers.an_input_has_one_answer.Goals as goal
+
+pub returns : goal.returns
+returns c = record { words = one_answer_of_words; text = one_answer_of_text }

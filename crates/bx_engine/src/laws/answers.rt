@@ -1,0 +1,15 @@
+//! What an input gives is one answer: a status, and what is said with it.
+ghost use Rattle.std.specs.Prelude.{◌≡◌, List, Option, Some, None, String};
+ghost use Rattle.std.specs.declared.alloc.Global.{Global};
+ghost use Rattle.bx_desk.specs.Desk.{Files};
+ghost use Rattle.bx_verilog.specs.Module.{Text};
+ghost use Rattle.bx_engine.specs.declared.status.Status.{Status};
+ghost use Rattle.bx_engine.specs.Runs.{net_word, net_text, IsAnswer};
+
+/// Words that name no file have one answer, and so have words and the text of the file that they name.
+pub fn an_input_has_one_answer()
+    ensures words { (words : List (String Global)) (told : Option Files) (s t : Status) (x y : Text) → net_word words ≡ None
+        → IsAnswer words told s x → IsAnswer words told t y → (s ≡ t) × (x ≡ y) }
+    ensures text { (words : List (String Global)) (told : Option Files) (s t : Status) (x y text : Text) → net_text words told ≡ Some text
+        → IsAnswer words told s x → IsAnswer words told t y → (s ≡ t) × (x ≡ y) }
+{}

@@ -1,3 +1,4 @@
 pub mod Through
 pub mod Sizes
 pub mod Cuts
+pub mod Readings

@@ -65,7 +65,7 @@ base_at (q ∷ b ∷ rest) e = omega arith
 
 base_within : (text : List ℕ) → base_len text ≤ length text
 base_within text =
-    chosen (λ n. n ≤ length text) ((get_or text 0 0 == 39) && is_base (get_or text 1 0)) (2 + prefix_len is_number_byte (drop 2 text)) 0 (λ e. let two = base_at text (and_parts _ _ e).1 in omega (arith, length-drop {A = ℕ}, prefix_len-le-length is_number_byte (drop 2 text))) (omega arith)
+    chosen (λ n. n ≤ length text) ((get_or text 0 0 == 39) && is_base (get_or text 1 0)) (2 + prefix_len is_number_byte (drop 2 text)) 0 (λ e. let two : 2 ≤ length text = base_at text (and_parts _ _ e).1 in omega (arith, length-drop {A = ℕ}, prefix_len-le-length is_number_byte (drop 2 text))) (omega arith)
 
 number_sized : (text : List ℕ) → 0 < length text → is_ascii_digit (get_or text 0 0) ≡ true → Sized text (Ok (lexeme Number (number_len text)))
 number_sized text h e =
@@ -109,6 +109,11 @@ front_sized place text h =
     (chosen (Sized text) (is_symbol (get_or text 0 0)) _ _ (λ e. one text (Some Symbol) h)
     (fault text (BadByte place)))))))))))
 
--- what a piece of a text is known by
-pub piece_sized : (place : ℕ) (text : List ℕ) (p : Piece) → 0 < length text → front place text ≡ Ok p → (0 < p.len) × (p.len ≤ length text)
-piece_sized place text p h e = (subst (Sized text) e (front_sized place text h)).within
+-- nothing is taken of no text
+nothing_taken : (place : ℕ) → front place [] ≡ Err (BadByte place)
+unfolding front is_symbol
+nothing_taken place = refl
+
+pub piece_taken : (place : ℕ) (text : List ℕ) (p : Piece) → front place text ≡ Ok p → (0 < p.len) × (p.len ≤ length text)
+piece_taken place [] p e = let n : front place [] ≡ Err (BadByte place) = nothing_taken place in absurd (cc)
+piece_taken place (b ∷ rest) p e = (subst (Sized (b ∷ rest)) e (front_sized place (b ∷ rest) (omega arith))).within

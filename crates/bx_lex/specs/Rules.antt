@@ -1,5 +1,5 @@
 -- The rules: what the first one that fits takes of a text.
-use Rattle.std.specs.Prelude.{ℕ, ◌+◌, Bool, not, ◌==◌, ◌&&◌, ◌||◌, nat_eq, if◌then◌else◌, List, [], ◌∷◌, drop, codes, length, Option, Some, None, Result, Ok, Err, slice_index}
+use Rattle.std.specs.Prelude.{◌≡◌, ◌≤◌, ◌++◌, ◌-◌, take, ℕ, ◌+◌, Bool, not, ◌==◌, ◌&&◌, ◌||◌, nat_eq, if◌then◌else◌, List, [], ◌∷◌, drop, codes, length, Option, Some, None, Result, Ok, Err, slice_index}
 use Rattle.std.specs.List.{prefix_len, starts_with}
 use Rattle.std.specs.Char.{is_ascii_digit, is_ascii_whitespace}
 use Rattle.std.specs.Option.{option_map}
@@ -69,3 +69,9 @@ front place text =
     else (if begins (codes "~^") text || begins (codes "^~") text then Ok (lexeme Symbol 2)
     else (if is_symbol (slice_index text 0) then Ok (lexeme Symbol 1)
     else Err (BadByte place))))))))))
+
+-- the text's first `close` ends behind n bytes
+abbrev pub IsFirstEnd : List ℕ → List ℕ → ℕ → Type 0
+IsFirstEnd close text n =
+    ((back : List ℕ) × (text ≡ take (n - length close) text ++ close ++ back)) × (length close ≤ n)
+    × ((earlier back : List ℕ) → text ≡ earlier ++ close ++ back → n ≤ length earlier + length close)

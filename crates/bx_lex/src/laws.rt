@@ -1,0 +1,23 @@
+//! Laws about the definitions: a text reads in one way, its tokens stand in order and each by the
+//! first rule, and the first close ends a comment. Nothing here runs.
+ghost use Rattle.std.specs.Prelude.{◌≡◌, ◌-◌, ℕ, List, length, drop, Result, All};
+ghost use Rattle.bx_lex.specs.declared.token.LexFault.{LexFault};
+ghost use Rattle.bx_lex.specs.Rules.{front, lexeme};
+ghost use Rattle.bx_lex.specs.Tokens.{TokenList, HasTokens, Reads, AreSpans};
+
+/// A text has tokens or a fault, never both, and one list of tokens or one fault.
+pub fn a_text_has_one_reading()
+    ensures some { (text : List ℕ) → (r : Result TokenList LexFault) × Reads text r }
+    ensures one { (text : List ℕ) (r s : Result TokenList LexFault) → Reads text r → Reads text s → r ≡ s }
+{}
+
+/// The tokens of a text stand in order inside it, and none is empty.
+pub fn tokens_stand_in_order()
+    ensures spans { (text : List ℕ) (found : TokenList) → HasTokens text found → AreSpans 0 found.tokens found.end }
+    ensures whole { (text : List ℕ) (found : TokenList) → HasTokens text found → found.end ≡ length text }
+{}
+
+/// Each token is what the first rule that fits takes where the token stands.
+pub fn a_token_is_taken_by_the_first_rule()
+    ensures { (text : List ℕ) (found : TokenList) → HasTokens text found → All (λ t. front t.start (drop t.start text) ≡ Ok (lexeme t.kind (t.end - t.start))) found.tokens }
+{}

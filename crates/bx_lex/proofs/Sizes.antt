@@ -65,7 +65,7 @@ base_at (q ∷ b ∷ rest) e = omega arith
 
 base_within : (text : List ℕ) → base_len text ≤ length text
 base_within text =
-    chosen (λ n. n ≤ length text) ((get_or text 0 0 == 39) && is_base (get_or text 1 0)) (2 + prefix_len is_number_byte (drop 2 text)) 0 (λ e. let two : 2 ≤ length text = base_at text (and_parts _ _ e).1 in omega (arith, length-drop {A = ℕ}, prefix_len-le-length is_number_byte (drop 2 text))) (omega arith)
+    chosen (λ n. n ≤ length text) ((get_or text 0 0 == 39) && is_base (get_or text 1 0)) (2 + prefix_len is_number_byte (drop 2 text)) 0 (λ e. let two : 2 ≤ length text = base_at text (and_parts (get_or text 0 0 == 39) (is_base (get_or text 1 0)) e).1 in omega (arith, length-drop {A = ℕ}, prefix_len-le-length is_number_byte (drop 2 text))) (omega arith)
 
 number_sized : (text : List ℕ) → 0 < length text → is_ascii_digit (get_or text 0 0) ≡ true → Sized text (Ok (lexeme Number (number_len text)))
 number_sized text h e =

@@ -11,3 +11,6 @@ mod tokens;
 pub use read::read_tokens;
 pub use token::{LexFault, Token, TokenKind};
 pub use tokens::Tokens;
+
+#[cfg(test)]
+mod tests;

@@ -1,8 +1,8 @@
 //! Laws about the definitions: a text reads in one way, its tokens stand in order and each by the
 //! first rule, and the first close ends a comment. Nothing here runs.
-ghost use Rattle.std.specs.Prelude.{◌≡◌, ◌-◌, ℕ, List, length, drop, Result, All};
+ghost use Rattle.std.specs.Prelude.{◌≡◌, ◌-◌, ◌<◌, ℕ, List, length, drop, Result, All};
 ghost use Rattle.bx_lex.specs.declared.token.LexFault.{LexFault};
-ghost use Rattle.bx_lex.specs.Rules.{front, lexeme};
+ghost use Rattle.bx_lex.specs.Rules.{front, lexeme, through, IsFirstClose};
 ghost use Rattle.bx_lex.specs.Tokens.{TokenList, HasTokens, Reads, AreSpans};
 
 /// A text has tokens or a fault, never both, and one list of tokens or one fault.
@@ -20,4 +20,9 @@ pub fn tokens_stand_in_order()
 /// Each token is what the first rule that fits takes where the token stands.
 pub fn a_token_is_taken_by_the_first_rule()
     ensures { (text : List ℕ) (found : TokenList) → HasTokens text found → All (λ t. front t.start (drop t.start text) ≡ Ok (lexeme t.kind (t.end - t.start))) found.tokens }
+{}
+
+/// A comment or an attribute ends behind the first close, and is open where there is none.
+pub fn the_first_close_ends_a_comment()
+    ensures { (close text : List ℕ) → 0 < length close → IsFirstClose close text (through close text) }
 {}

@@ -1,18 +1,7 @@
 -- What closes a comment or an attribute is the first that stands behind.
-use Rattle.std.proofs.Common.{◌≡◌, ℕ, ◌+◌, ◌<◌, Bool, true, false, cond, List, [], ◌∷◌, ◌++◌, length, drop, Option, Some, None, option_map, refl, sym, ap, ◌∙◌, arith, length-append}
-use Rattle.std.proofs.lemmas.Slice.Eq.{starts_is}
-use Rattle.std.proofs.lemmas.Bool.Decides.{Decides-eqb}
+use Rattle.std.proofs.Common.{◌≡◌, ℕ, ◌+◌, ◌<◌, true, false, List, [], ◌∷◌, ◌++◌, length, drop, Option, Some, None, option_map, sym, ap, ◌∙◌, arith, length-append}
 use Rattle.bx_lex.specs.Rules.{begins, through, IsFirstClose}
-
-either : {X : Type 0} (P : X → Type 0) (b : Bool) (x y : X) → (b ≡ true → P x) → (b ≡ false → P y) → P (cond b x y)
-either P true x y h k = h refl
-either P false x y h k = k refl
-
-begins_is : (close text : List ℕ) → begins close text ≡ true → text ≡ close ++ drop (length close) text
-begins_is close text e = (starts_is Decides-eqb text close _ refl).0 e
-
-is_begins : (close text back : List ℕ) → text ≡ close ++ back → begins close text ≡ true
-is_begins close text back e = (starts_is Decides-eqb text close _ refl).1 back e
+use Rattle.bx_lex.proofs.Begins.{either, begins_is, is_begins}
 
 -- it doesn't begin with the first byte
 no_sooner : (close : List ℕ) (b : ℕ) (rest earlier back : List ℕ) → begins close (b ∷ rest) ≡ false → b ∷ rest ≡ earlier ++ close ++ back → (shorter : List ℕ) × (length earlier ≡ length shorter + 1) × (rest ≡ shorter ++ close ++ back)

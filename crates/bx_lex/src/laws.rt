@@ -3,6 +3,7 @@
 ghost use Rattle.std.specs.Prelude.{◌≡◌, ◌-◌, ◌<◌, ℕ, List, length, drop, Result, All};
 ghost use Rattle.bx_lex.specs.declared.token.LexFault.{LexFault};
 ghost use Rattle.bx_lex.specs.Rules.{front, lexeme, through, IsFirstClose};
+ghost use Rattle.bx_lex.specs.Kinds.{IsTokenOf};
 ghost use Rattle.bx_lex.specs.Tokens.{TokenList, HasTokens, Reads, AreSpans};
 
 /// A text has tokens or a fault, never both, and one list of tokens or one fault.
@@ -20,6 +21,11 @@ pub fn tokens_stand_in_order()
 /// Each token is what the first rule that fits takes where the token stands.
 pub fn a_token_is_taken_by_the_first_rule()
     ensures { (text : List ℕ) (found : TokenList) → HasTokens text found → All (λ t. front t.start (drop t.start text) ≡ Ok (lexeme t.kind (t.end - t.start))) found.tokens }
+{}
+
+/// A word and an escaped word are runs that can't be longer, and each other token is one of its kind.
+pub fn a_token_is_one_of_its_kind()
+    ensures { (text : List ℕ) (found : TokenList) → HasTokens text found → All (λ t. IsTokenOf t.kind (drop t.start text) (t.end - t.start)) found.tokens }
 {}
 
 /// A comment or an attribute ends behind the first close, and is open where there is none.

@@ -4,12 +4,17 @@ ghost use Rattle.std.specs.Prelude.{◌≡◌, ◌-◌, ◌<◌, ℕ, List, leng
 ghost use Rattle.bx_lex.specs.declared.token.LexFault.{LexFault};
 ghost use Rattle.bx_lex.specs.Rules.{front, lexeme, through, IsFirstClose};
 ghost use Rattle.bx_lex.specs.Kinds.{IsTokenOf};
-ghost use Rattle.bx_lex.specs.Tokens.{TokenList, HasTokens, Reads, AreSpans};
+ghost use Rattle.bx_lex.specs.Tokens.{TokenList, HasTokens, HasFault, Reads, AreSpans};
 
 /// A text has tokens or a fault, never both, and one list of tokens or one fault.
 pub fn a_text_has_one_reading()
     ensures some { (text : List ℕ) → (r : Result TokenList LexFault) × Reads text r }
     ensures one { (text : List ℕ) (r s : Result TokenList LexFault) → Reads text r → Reads text s → r ≡ s }
+{}
+
+/// Want of memory is no fault of a text.
+pub fn want_of_memory_is_no_fault()
+    ensures { (text : List ℕ) → HasFault text LexFault.NoMemory → ⊥ }
 {}
 
 /// The tokens of a text stand in order inside it, and none is empty.

@@ -40,6 +40,8 @@ impl Piece {
         ensures whole_buffers { OnOk result (length (pending self.new) ≡ (length (pending self.old) + length bytes.now) % 4096) }
         ensures failed { OnErr result (Rose (D.faults desk.old).say (D.faults desk.new).say) }
         ensures ok_no_fault { OnOk result (D.faults desk.new ≡ D.faults desk.old) }
+        // Without a full buffer the desk isn't called.
+        ensures quiet { length (pending self.old) + length bytes.now < 4096 → desk.new ≡ desk.old }
         ensures counts { SayCounts (D.faults desk.old) (D.faults desk.new) }
         ensures files_stay { D.files desk.new ≡ D.files desk.old }
     {
@@ -84,6 +86,8 @@ impl Piece {
         ensures empty { OnOk result (pending self.new ≡ []) }
         ensures failed { OnErr result (Rose (D.faults desk.old).say (D.faults desk.new).say) }
         ensures ok_no_fault { OnOk result (D.faults desk.new ≡ D.faults desk.old) }
+        // With nothing pending the desk isn't called.
+        ensures quiet { pending self.old ≡ [] → desk.new ≡ desk.old }
         ensures counts { SayCounts (D.faults desk.old) (D.faults desk.new) }
         ensures files_stay { D.files desk.new ≡ D.files desk.old }
     {

@@ -12,10 +12,10 @@ use Rattle.bx_engine.specs.Runs.{net_word, net_text, layout_of, report_of, HasTe
 module _ {A : Type 0} (words : List (String A)) (told : Option Files) where
   pub one_answer_of_words : (s t : Status) (x y : Text) → net_word words ≡ None → IsAnswer words told s x → IsAnswer words told t y → (s ≡ t) × (x ≡ y)
   one_answer_of_words _ _ _ _ none (no_command a) (no_command b) = (refl, refl)
-  one_answer_of_words _ _ _ _ none (no_form net named n) b = let lost : None ≡ Some net = sym none ∙ named in cc
-  one_answer_of_words _ _ _ _ none (laid_out net named c is has) b = let lost : None ≡ Some net = sym none ∙ named in cc
-  one_answer_of_words _ _ _ _ none (no_command a) (no_form net named n) = let lost : None ≡ Some net = sym none ∙ named in cc
-  one_answer_of_words _ _ _ _ none (no_command a) (laid_out net named c is has) = let lost : None ≡ Some net = sym none ∙ named in cc
+  one_answer_of_words _ _ _ _ none (no_form net named there n) b = let lost : None ≡ Some net = sym none ∙ named in cc
+  one_answer_of_words _ _ _ _ none (laid_out net named there c is has) b = let lost : None ≡ Some net = sym none ∙ named in cc
+  one_answer_of_words _ _ _ _ none (no_command a) (no_form net named there n) = let lost : None ≡ Some net = sym none ∙ named in cc
+  one_answer_of_words _ _ _ _ none (no_command a) (laid_out net named there c is has) = let lost : None ≡ Some net = sym none ∙ named in cc
 
   no_text : (text : Text) → net_word words ≡ None → net_text words told ≡ Some text → ⊥
   no_text text none e = let lost : None ≡ Some text = sym (ap (option_and_then (λ (net : Text). option_and_then (λ files. files net) told)) none) ∙ e in cc
@@ -29,10 +29,10 @@ module _ {A : Type 0} (words : List (String A)) (told : Option Files) where
 
   pub one_answer_of_text : (s t : Status) (x y text : Text) → net_text words told ≡ Some text → IsAnswer words told s x → IsAnswer words told t y → (s ≡ t) × (x ≡ y)
   one_answer_of_text _ _ _ _ text e (no_command none) b = absurd (no_text text none e)
-  one_answer_of_text _ _ _ _ text e (no_form net named n) (no_command none) = absurd (no_text text none e)
-  one_answer_of_text _ _ _ _ text e (no_form net named n) (no_form net' named' n') = (refl, refl)
-  one_answer_of_text _ _ _ _ text e (no_form net named n) (laid_out net' named' c is has) = absurd (n c is (formless text c is has e))
-  one_answer_of_text _ _ _ _ text e (laid_out net named c is has) (no_command none) = absurd (no_text text none e)
-  one_answer_of_text _ _ _ _ text e (laid_out net named c is has) (no_form net' named' n) = absurd (n c is (formless text c is has e))
-  one_answer_of_text _ _ _ _ text e (laid_out net named c is has) (laid_out net' named' d is' has') =
+  one_answer_of_text _ _ _ _ text e (no_form net named there n) (no_command none) = absurd (no_text text none e)
+  one_answer_of_text _ _ _ _ text e (no_form net named there n) (no_form net' named' there' n') = (refl, refl)
+  one_answer_of_text _ _ _ _ text e (no_form net named there n) (laid_out net' named' there' c is has) = absurd (n c is (formless text c is has e))
+  one_answer_of_text _ _ _ _ text e (laid_out net named there c is has) (no_command none) = absurd (no_text text none e)
+  one_answer_of_text _ _ _ _ text e (laid_out net named there c is has) (no_form net' named' there' n) = absurd (n c is (formless text c is has e))
+  one_answer_of_text _ _ _ _ text e (laid_out net named there c is has) (laid_out net' named' there' d is' has') =
       let one : c ≡ d = same text c d is is' has has' e in (ap (λ (q : Chain). Found (layout_of q).ratio) one, ap report_of one)

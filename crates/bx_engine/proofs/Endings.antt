@@ -1,7 +1,7 @@
 -- A text that was said and handed on, and what the end of a run says then.
 use Rattle.std.proofs.Common.{◌≡◌, ℕ, List, [], ◌∷◌, ◌++◌, ◌≤◌, Option, Result, Ok, Err, sym, ◌∙◌, subst, arith}
 use Rattle.std.proofs.lemmas.List.{append-nil}
-use Rattle.std.specs.Prelude.{codes, OnErr}
+use Rattle.std.specs.Prelude.{codes, OnOk, OnErr}
 use Rattle.bx_desk.specs.Desk.{Files, Counts, Rose, Adds, AddsUpTo}
 use Rattle.bx_desk.specs.Pieces.{HandsOn}
 use Rattle.bx_desk.specs.declared.desk.Failed.{Failed}
@@ -30,6 +30,7 @@ module _ {D : Type 0} (files : D → Option Files) (said : D → Option (List �
       let up : AddsUpTo (said old) (said mid) text held = subst (λ (r : Result T Failed). HandsOn r (said old) (said mid) text held) ok a.hands_on in
       record {
         ends = then_held (said old) (said mid) (said new) (faults old).say (faults mid).say (faults new).say status text held result b.ends (subst (λ (xs : List ℕ). AddsUpTo (said old) (said mid) text xs) (sym (append-nil held)) up) a.counts.say;
+        settled = λ is. b.settled is ∙ subst (λ (r : Result T Failed). OnOk r (faults mid ≡ faults old)) ok a.ok_no_fault;
         counts = record { load = b.counts.load ∙ a.counts.load; say = omega arith };
         files_stay = b.files_stay ∙ a.files_stay;
       }
@@ -38,6 +39,7 @@ module _ {D : Type 0} (files : D → Option Files) (said : D → Option (List �
   pub says_ends_failed : {T : Type 0} (old new : D) (first : Result T Failed) (e : Failed) (status : Status) (held text : List ℕ) → first ≡ Err e → Says files said faults old new first [] held text → EndsSaying files said faults old new (WriteFault Output) status text
   says_ends_failed {T} old new first e status held text err a = record {
     ends = failed (subst (λ (r : Result T Failed). HandsOn r (said old) (said new) text held) err a.hands_on) (subst (λ (r : Result T Failed). OnErr r (Rose (faults old).say (faults new).say)) err a.failed);
+    settled = λ is. absurd is;
     counts = a.counts;
     files_stay = a.files_stay;
   }

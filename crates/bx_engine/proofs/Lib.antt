@@ -19,3 +19,4 @@ pub mod Endings
 pub mod Serving
 pub mod Clauses
 pub mod Answers
+pub mod Meanings

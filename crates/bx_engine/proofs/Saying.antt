@@ -1,8 +1,8 @@
 -- Texts said one after another through one piece.
 use Rattle.std.proofs.Common.{◌≡◌, ℕ, ◌+◌, ◌≤◌, ◌<◌, length, take, get_or, List, [], ◌++◌, Option, Result, Ok, Err, sym, ◌∙◌, ap, subst, refl, arith, append_assoc}
 use Rattle.std.proofs.lemmas.List.{append-nil}
-use Rattle.std.proofs.lemmas.Result.{on_err_weaker}
-use Rattle.std.specs.Result.{IsErr, OnErr}
+use Rattle.std.proofs.lemmas.Result.{on_err_weaker, on_ok_weaker}
+use Rattle.std.specs.Result.{IsErr, OnOk, OnErr}
 use Rattle.bx_desk.specs.Desk.{Files, Counts, Rose, AddsUpTo, AddsFront}
 use Rattle.bx_desk.specs.Pieces.{HandsOn}
 use Rattle.bx_desk.specs.declared.desk.Failed.{Failed}
@@ -28,6 +28,7 @@ module _ {D : Type 0} (files : D → Option Files) (said : D → Option (List �
   says_nothing desk u held = record {
     hands_on = record { added = []; split = sym (append-nil held); adds = adds_nothing (said desk) };
     failed = tt;
+    ok_no_fault = refl;
     counts = record { load = refl; say = omega arith };
     files_stay = refl;
   }
@@ -35,10 +36,12 @@ module _ {D : Type 0} (files : D → Option Files) (said : D → Option (List �
   -- a text that was said, and then a text that was said or not
   pub says_then : {S T : Type 0} (old mid new : D) (first : Result S Failed) (u : S) (second : Result T Failed) (p0 p1 p2 t w : List ℕ) → first ≡ Ok u → Says files said faults old mid first p0 p1 t → Says files said faults mid new second p1 p2 w → Says files said faults old new second p0 p2 (t ++ w)
   says_then {S} {T} old mid new first u second p0 p1 p2 t w ok a b =
+      let none : faults mid ≡ faults old = subst (λ (r : Result S Failed). OnOk r (faults mid ≡ faults old)) ok a.ok_no_fault in
       let up : AddsUpTo (said old) (said mid) (p0 ++ t) p1 = subst (λ (r : Result S Failed). HandsOn r (said old) (said mid) (p0 ++ t) p1) ok a.hands_on in
       record {
         hands_on = by_result second b.hands_on up;
         failed = on_err_weaker second (λ rose. later rose a.counts.say) b.failed;
+        ok_no_fault = on_ok_weaker second (λ same. same ∙ none) b.ok_no_fault;
         counts = record { load = b.counts.load ∙ a.counts.load; say = omega arith };
         files_stay = b.files_stay ∙ a.files_stay;
       }
@@ -56,6 +59,7 @@ module _ {D : Type 0} (files : D → Option Files) (said : D → Option (List �
   says_failed {S} {T} old new first e (Err d) p0 p1 p2 t w err is a = record {
     hands_on = subst (λ (xs : List ℕ). AddsFront (said old) (said new) xs) (append_assoc p0 t w) (front_more (said old) (said new) (p0 ++ t) w (subst (λ (r : Result S Failed). HandsOn r (said old) (said new) (p0 ++ t) p1) err a.hands_on));
     failed = subst (λ (r : Result S Failed). OnErr r (Rose (faults old).say (faults new).say)) err a.failed;
+    ok_no_fault = tt;
     counts = a.counts;
     files_stay = a.files_stay;
   }

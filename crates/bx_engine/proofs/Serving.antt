@@ -1,6 +1,6 @@
 -- From how a run's steps end to the answer that the words and the file give.
-use Rattle.std.proofs.Common.{◌≡◌, ℕ, ◌+◌, List, [], ◌∷◌, Option, Some, None, sym, ◌∙◌, ap, subst}
-use Rattle.std.specs.Prelude.{String, IfSome, option_and_then}
+use Rattle.std.proofs.Common.{◌≡◌, ℕ, ◌+◌, List, [], ◌∷◌, Option, Some, None, refl, sym, ◌∙◌, ap, subst}
+use Rattle.std.specs.Prelude.{String, IfSome, IsSome, option_and_then}
 use Rattle.bx_desk.specs.Desk.{Files, Counts, Rose, IsFile}
 use Rattle.bx_verilog.specs.Module.{Text}
 use Rattle.bx_verilog.specs.Chain as written
@@ -13,7 +13,7 @@ use Rattle.bx_engine.specs.Columns.{column}
 use Rattle.bx_engine.specs.ChainNetworks.{chain_network}
 use Rattle.bx_engine.specs.Texts.{report_text}
 use Rattle.bx_engine.specs.Reports.{report_shown}
-use Rattle.bx_engine.specs.Runs.{net_word, net_text, report_of, layout_of, IsOfNoForm, HasText, IsAnswer, laid_out}
+use Rattle.bx_engine.specs.Runs.{net_word, net_text, report_of, layout_of, IsOfNoForm, HasText, IsThere, IsAnswer, laid_out}
 use Rattle.bx_engine.specs.Endings.{Ends, done, failed, EndsSaying, ReadsChain}
 use Rattle.bx_engine.specs.Serves.{Outcome, answered, unsaid, Serves}
 
@@ -45,14 +45,22 @@ report_is_of w c s =
     ∙ ap (λ (x : Text). at w.name w.input x c.inversions) s.output
     ∙ ap (λ (x : ℕ). at w.name w.input w.output x) s.inversions
 
+-- a file of which a text is told is there
+there_is : (net text : Text) (told : Option Files) → IsFile told net text → IsThere told net
+there_is net text None file = tt
+there_is net text (Some files) file = some_is file where
+  some_is : {o : Option Text} {t : Text} → o ≡ Some t → IsSome o
+  some_is e = subst (λ (x : Option Text). IsSome x) (sym e) refl
+
 -- the answer that a layout gives
 pub laid : {A : Type 0} (words : List (String A)) (net : Text) (told : Option Files) (c : Chain) (grid : FormGrid) → net_word words ≡ Some net → ReadsChain told net c → grid ≡ column c.inversions → IsAnswer words told (Found grid.ratio) (report_shown c)
 laid words net told c grid named h is_column =
     let w : written.Chain = h.spells.written_as in
+    let is_there : IsThere told net = there_is net h.text told h.file in
     let same_grid : layout_of w ≡ grid = sym (is_column ∙ ap column h.spells.shown.inversions) in
     let has : HasText words told (written.spelling w) = has_text words net named told (written.spelling w) (subst (λ (t : Text). IsFile told net t) h.spells.spelled h.file) in
     subst (λ (g : FormGrid). IsAnswer words told (Found g.ratio) (report_shown c)) same_grid
-    (subst (λ (t : Text). IsAnswer words told (Found (layout_of w).ratio) t) (sym (report_is_of w c h.spells.shown)) (laid_out net named w h.spells.is_chain has))
+    (subst (λ (t : Text). IsAnswer words told (Found (layout_of w).ratio) t) (sym (report_is_of w c h.spells.shown)) (laid_out net named is_there w h.spells.is_chain has))
 
 -- an answer whose text was said, or a front of it
 outcome_of : {A : Type 0} (words : List (String A)) (told : Option Files) (s0 s1 : Option (List ℕ)) (before mid now : Counts) (status result : Status) (text : Text) → IsAnswer words told status text → Ends s0 s1 mid.say now.say status text result → mid.say ≡ before.say → Outcome words told s0 s1 before now result
@@ -61,8 +69,9 @@ outcome_of words told s0 s1 before mid now status result text is (failed front r
 
 module _ {D A : Type 0} (files : D → Option Files) (said : D → Option (List ℕ)) (faults : D → Counts) where
   -- the text of an answer was said, after a load or none
-  pub serves : (old mid new : D) (words : List (String A)) (status result : Status) (text : Text) → IsAnswer words (files old) status text → files mid ≡ files old → said mid ≡ said old → (faults mid).say ≡ (faults old).say → EndsSaying files said faults mid new result status text → Serves files said faults old new words result
-  serves old mid new words status result text is files_stay said_stays say_stays h = record {
-    outcome = outcome_of words (files old) (said old) (said new) (faults old) (faults mid) (faults new) status result text is (subst (λ (s : Option (List ℕ)). Ends s (said new) (faults mid).say (faults new).say status text result) said_stays h.ends) say_stays;
+  pub serves : (old mid new : D) (words : List (String A)) (status result : Status) (text : Text) → IsAnswer words (files old) status text → files mid ≡ files old → said mid ≡ said old → faults mid ≡ faults old → EndsSaying files said faults mid new result status text → Serves files said faults old new words result
+  serves old mid new words status result text is files_stay said_stays same h = record {
+    outcome = outcome_of words (files old) (said old) (said new) (faults old) (faults mid) (faults new) status result text is (subst (λ (s : Option (List ℕ)). Ends s (said new) (faults mid).say (faults new).say status text result) said_stays h.ends) (ap (λ (n : Counts). n.say) same);
+    settled = λ settled. h.settled settled ∙ same;
     files_stay = h.files_stay ∙ files_stay;
   }

@@ -8,6 +8,8 @@ use Rattle.bx_verilog.specs.declared.chain.Chain.{Chain}
 use Rattle.bx_engine.specs.declared.status.Status.{Status}
 use Rattle.bx_engine.specs.declared.status.Status.TheVariants.{WriteFault}
 use Rattle.bx_engine.specs.declared.status.Which.TheVariants.{Output}
+use Rattle.bx_engine.specs.Statuses.{IsSettled}
+use Rattle.bx_engine.specs.Runs.{IsThere}
 use Rattle.bx_engine.specs.declared.engine.NoLayout.{NoLayout}
 use Rattle.bx_engine.specs.declared.engine.NoLayout.TheVariants.{NotBuilt, Unread, NoMemory}
 
@@ -18,6 +20,7 @@ pub data Ends (said said' : Option (List ℕ)) (before now : ℕ) (status : Stat
 
 pub record EndsSaying {D : Type 0} (files : D → Option Files) (said : D → Option (List ℕ)) (faults : D → Counts) (old new : D) (result status : Status) (text : Text) : Type 0 where
   pub ends : Ends (said old) (said new) (faults old).say (faults new).say status text result
+  pub settled : IsSettled result → faults new ≡ faults old
   pub counts : SayCounts (faults old) (faults new)
   pub files_stay : files new ≡ files old
 
@@ -42,6 +45,6 @@ TextEnds text NoMemory = ⊤
 
 -- why no layout was made of the file
 abbrev pub FileEnds : Option Files → Text → Counts → Counts → NoLayout → Type 0
-FileEnds told net before now NotBuilt = (c : written.Chain) → written.IsChain c → IfSome told (λ files. files net ≡ Some (written.spelling c) → ⊥)
+FileEnds told net before now NotBuilt = IsThere told net × (now ≡ before) × ((c : written.Chain) → written.IsChain c → IfSome told (λ files. files net ≡ Some (written.spelling c) → ⊥))
 FileEnds told net before now Unread = Rose before.load now.load
 FileEnds told net before now NoMemory = ⊤

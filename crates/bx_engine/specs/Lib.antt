@@ -18,3 +18,4 @@ pub mod Endings
 pub mod FormTable
 pub mod Examples
 pub mod Serves
+pub mod Meanings

@@ -1,5 +1,5 @@
 -- What a run is told: its words, and the text that the desk tells to be the file that they name.
-use Rattle.std.specs.Prelude.{◌≡◌, List, [], ◌∷◌, codes, Option, Some, None, option_and_then, if◌then◌else◌, String, string_bytes}
+use Rattle.std.specs.Prelude.{◌≡◌, List, [], ◌∷◌, codes, Option, Some, None, IsSome, IfSome, option_and_then, if◌then◌else◌, String, string_bytes}
 use Rattle.std.specs.Str.{bytes_eq}
 use Rattle.bx_desk.specs.Desk.{Files}
 use Rattle.bx_verilog.specs.Module.{Text, Module}
@@ -7,7 +7,8 @@ use Rattle.bx_verilog.specs.Chain.{Chain, IsChain, spelling, inversions}
 use Rattle.bx_engine.specs.declared.grid.Ratio.{Ratio}
 use Rattle.bx_engine.specs.declared.grid.TheConstants.{DEFAULT_LIMITS}
 use Rattle.bx_engine.specs.Grids.{FormGrid, Pins, IsFormGrid, IsSound, ArePins, Computes}
-use Rattle.bx_engine.specs.Networks.{Network}
+use Rattle.bx_engine.specs.Networks.{Network, IsNetwork}
+use Rattle.bx_engine.specs.Meanings.{NetworkComputes}
 use Rattle.bx_engine.specs.ChainNetworks.{chain_network}
 use Rattle.bx_engine.specs.Columns.{column, column_pins}
 use Rattle.bx_engine.specs.Counts.{EachEarlierIsLate}
@@ -47,6 +48,8 @@ pub record IsLayout (name : Text) (m : Module) (N : Network) (ratio : Ratio) (re
   pub sound : IsSound grid
   pub ports : ArePins grid m pins
   pub computes : Computes grid pins m
+  pub network : IsNetwork N
+  pub meaning : NetworkComputes N m
   pub least : EachEarlierIsLate DEFAULT_LIMITS N ratio
 
 -- the file isn't of the form that is laid out, as far as the desk tells
@@ -57,8 +60,12 @@ IsOfNoForm words told = (c : Chain) → IsChain c → net_text words told ≡ So
 abbrev pub HasText : {A : Type 0} → List (String A) → Option Files → Text → Type 0
 HasText words told text = (told_text : Text) → net_text words told ≡ Some told_text → told_text ≡ text
 
+-- the file is there, as far as the desk tells
+abbrev pub IsThere : Option Files → Text → Type 0
+IsThere told net = IfSome told (λ files. IsSome (files net))
+
 -- the status that the words and the file give, and what is said with it
 pub data IsAnswer {A : Type 0} (words : List (String A)) (told : Option Files) : Status → Text → Type 0 where
   no_command : net_word words ≡ None → IsAnswer words told (Words Command) (refusal_text (word_fault_text Command))
-  no_form : (net : Text) → net_word words ≡ Some net → IsOfNoForm words told → IsAnswer words told (Refused NotBuilt) (refusal_text (input_fault_text NotBuilt))
-  laid_out : (net : Text) → net_word words ≡ Some net → (c : Chain) → IsChain c → HasText words told (spelling c) → IsAnswer words told (Found (layout_of c).ratio) (report_of c)
+  no_form : (net : Text) → net_word words ≡ Some net → IsThere told net → IsOfNoForm words told → IsAnswer words told (Refused NotBuilt) (refusal_text (input_fault_text NotBuilt))
+  laid_out : (net : Text) → net_word words ≡ Some net → IsThere told net → (c : Chain) → IsChain c → HasText words told (spelling c) → IsAnswer words told (Found (layout_of c).ratio) (report_of c)

@@ -1,5 +1,5 @@
 -- What a call does that says a text through a piece.
-use Rattle.std.specs.Prelude.{◌≡◌, ℕ, List, ◌++◌, Option, Result, OnErr}
+use Rattle.std.specs.Prelude.{◌≡◌, ℕ, List, ◌++◌, Option, Result, OnOk, OnErr}
 use Rattle.bx_desk.specs.Desk.{Files, Counts, Rose, SayCounts}
 use Rattle.bx_desk.specs.Pieces.{HandsOn}
 use Rattle.bx_desk.specs.declared.desk.Failed.{Failed}
@@ -10,5 +10,6 @@ use Rattle.bx_desk.specs.declared.desk.Failed.{Failed}
 pub record Says {D T : Type 0} (files : D → Option Files) (said : D → Option (List ℕ)) (faults : D → Counts) (old new : D) (result : Result T Failed) (held_before held_after text : List ℕ) : Type 0 where
   pub hands_on : HandsOn result (said old) (said new) (held_before ++ text) held_after
   pub failed : OnErr result (Rose (faults old).say (faults new).say)
+  pub ok_no_fault : OnOk result (faults new ≡ faults old)
   pub counts : SayCounts (faults old) (faults new)
   pub files_stay : files new ≡ files old

@@ -3,7 +3,7 @@
 //! Its clauses are the tool's promise. Each status is tied to its cause in both directions: it comes
 //! only where its cause stands, and where the cause stands nothing else comes but want of memory or a
 //! fault of the desk, which in turn come only where the desk's count of such faults rose.
-ghost use Rattle.std.specs.Prelude.{◌≡◌, ◌⊎◌, ℕ, List, Some, None, Option, ◌≤◌, IfOk, IfErr, option_map};
+ghost use Rattle.std.specs.Prelude.{◌≡◌, ◌⊎◌, ℕ, List, Some, None, Option, ◌≤◌, IfOk, IfErr, OnOk, IsSome, option_map};
 ghost use Rattle.bx_desk.specs.Desk.{Rose, LoadCounts, Adds, AddsFront};
 ghost use Rattle.bx_verilog.specs.Module.{Text};
 ghost use Rattle.bx_verilog.specs.Chain.{Chain as Written, IsChain, spelling, module_of, most_inversions};
@@ -16,7 +16,7 @@ ghost use Rattle.bx_engine.specs.declared.grid.Ratio.{Ratio as Sides};
 ghost use Rattle.bx_engine.specs.declared.status.Which.{Which as Place};
 ghost use Rattle.bx_engine.specs.Statuses.{IsSettled};
 ghost use Rattle.bx_engine.specs.Texts.{refusal_text, word_fault_text, input_fault_text};
-ghost use Rattle.bx_engine.specs.Runs.{net_word, net_text, network_of, layout_of, report_of, IsLayout, IsAnswer};
+ghost use Rattle.bx_engine.specs.Runs.{net_word, net_text, network_of, layout_of, report_of, IsLayout, IsThere, IsAnswer};
 ghost use Rattle.bx_engine.specs.Serves.{Serves};
 ghost use Rattle.bx_engine.specs.declared.status.Status.{Status as Ending};
 
@@ -59,7 +59,7 @@ pub fn run<T: Threads + Sync, D: Desk, G: Gate + Sync>(
 
     // A layout is found where the file is of that form, and only there, and its report is said.
     ensures found_only { (ratio : Sides) → result ≡ Status.Found ratio → (text : Text) → net_text words.now (D.files desk.old) ≡ Some text
-        → (c : Written) × IsChain c × (text ≡ spelling c) }
+        → (c : Written) × IsChain c × (text ≡ spelling c) × (ratio ≡ (layout_of c).ratio) }
     ensures found { IsSettled result → (c : Written) → IsChain c → net_text words.now (D.files desk.old) ≡ Some (spelling c)
         → result ≡ Status.Found (layout_of c).ratio }
     ensures found_said { (ratio : Sides) → result ≡ Status.Found ratio → (c : Written) → IsChain c
@@ -69,9 +69,13 @@ pub fn run<T: Threads + Sync, D: Desk, G: Gate + Sync>(
     ensures layout { (ratio : Sides) → result ≡ Status.Found ratio → (c : Written) → IsChain c
         → net_text words.now (D.files desk.old) ≡ Some (spelling c) → IsLayout c.name (module_of c) (network_of c) ratio (report_of c) }
 
+    // A status that says anything of the file comes only where the file is there, and where nothing failed.
+    ensures there { IsSettled result → (net : Text) → net_word words.now ≡ Some net → IsThere (D.files desk.old) net }
+    ensures settled_no_fault { IsSettled result → D.faults desk.new ≡ D.faults desk.old }
+
     // Faults of the desk come only where its counts rose, and want of memory says nothing.
     ensures read_fault { (which : Place) → result ≡ Status.ReadFault which
-        → (which ≡ Which.NetFile) × Rose (D.faults desk.old).load (D.faults desk.new).load }
+        → (which ≡ Which.NetFile) × IsSome (net_word words.now) × Rose (D.faults desk.old).load (D.faults desk.new).load }
     ensures read_fault_said { (which : Place) → result ≡ Status.ReadFault which → D.said desk.new ≡ D.said desk.old }
     ensures write_fault { (which : Place) → result ≡ Status.WriteFault which
         → (which ≡ Which.Output) × Rose (D.faults desk.old).say (D.faults desk.new).say }
@@ -129,6 +133,7 @@ fn lay_out<D: Desk>(alloc: Global, net: &str, desk: &mut D) -> Result<Layout, No
     ensures chain { IfOk result (λ layout. ReadsChain (D.files desk.old) net.now layout.chain) }
     ensures grid { IfOk result (λ layout. layout.grid ≡ column_of layout.chain.inversions) }
     ensures err { IfErr result (FileEnds (D.files desk.old) net.now (D.faults desk.old) (D.faults desk.new)) }
+    ensures ok_no_fault { OnOk result (D.faults desk.new ≡ D.faults desk.old) }
     ensures counts { LoadCounts (D.faults desk.old) (D.faults desk.new) }
     ensures files_stay { D.files desk.new ≡ D.files desk.old }
     ensures said_stays { D.said desk.new ≡ D.said desk.old }

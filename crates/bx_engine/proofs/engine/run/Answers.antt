@@ -1,4 +1,4 @@
-use Rattle.bx_engine.proofs.Clauses.{found_only, found, found_said, layout, write_fault_said}
+use Rattle.bx_engine.proofs.Clauses.{there, found_only, found, found_said, layout, write_fault_said}
 use Rattle.bx_engine.proofs.engine.run.Goals as goal
 
 pub returns-clause-found_only : goal.returns-clause-found_only
@@ -15,3 +15,6 @@ returns-clause-layout g c = layout c.args.words.now (g.D.Desk.files c.args.desk.
 
 pub returns-clause-write_fault_said : goal.returns-clause-write_fault_said
 returns-clause-write_fault_said g c = write_fault_said c.args.words.now (g.D.Desk.files c.args.desk.now) (g.D.Desk.said c.args.desk.now) (g.D.Desk.said c.serve.new.desk) (g.D.Desk.faults c.args.desk.now) (g.D.Desk.faults c.serve.new.desk) c.serve.result c.serve.ensures.outcome
+
+pub returns-clause-there : goal.returns-clause-there
+returns-clause-there g c = there c.args.words.now (g.D.Desk.files c.args.desk.now) (g.D.Desk.said c.args.desk.now) (g.D.Desk.said c.serve.new.desk) (g.D.Desk.faults c.args.desk.now) (g.D.Desk.faults c.serve.new.desk) c.serve.result c.serve.ensures.outcome

@@ -1,5 +1,6 @@
 use Rattle.std.proofs.Common.{refl, sym, subst}
 use Rattle.bx_engine.specs.declared.engine.NoLayout.{NoLayout}
+use Rattle.bx_engine.specs.declared.engine.NoLayout.TheVariants.{NotBuilt}
 use Rattle.bx_engine.specs.Endings.{FileEnds}
 use Rattle.bx_engine.proofs.Serving.{serves, of_no_form, laid}
 use Rattle.bx_engine.specs.Runs.{no_form, no_command}
@@ -14,19 +15,24 @@ pub returns-in-Ok : goal.returns-in-Ok
 returns-in-Ok g c =
     serves _ _ _ c.args.desk.now c.lay_out.new.desk c.report.new.desk c.args.words.now _ _ _
     (laid c.args.words.now c.in-Some.net.now (g.D.Desk.files c.args.desk.now) c.in-Ok.layout.chain c.in-Ok.layout.grid (sym c.in-Some.ensures) c.in-Ok.ensures.chain c.in-Ok.ensures.grid)
-    c.lay_out.ensures.files_stay c.lay_out.ensures.said_stays c.lay_out.ensures.counts.say c.report.ensures
+    c.lay_out.ensures.files_stay c.lay_out.ensures.said_stays c.in-Ok.ensures.ok_no_fault c.report.ensures
+
+-- why the file was refused
+refused : (g : _) (c : goal.After-refuse-in-Err-NotBuilt g) → FileEnds (g.D.Desk.files c.args.desk.now) c.in-Some.net.now (g.D.Desk.faults c.args.desk.now) (g.D.Desk.faults c.lay_out.new.desk) NotBuilt
+refused g c = subst (λ (e : NoLayout). FileEnds (g.D.Desk.files c.args.desk.now) c.in-Some.net.now (g.D.Desk.faults c.args.desk.now) (g.D.Desk.faults c.lay_out.new.desk) e) c.in-Err-NotBuilt.field-0-is c.in-Err-NotBuilt.ensures.err
 
 pub returns-in-Err-NotBuilt : goal.returns-in-Err-NotBuilt
 returns-in-Err-NotBuilt g c =
     serves _ _ _ c.args.desk.now c.lay_out.new.desk c.refuse-in-Err-NotBuilt.new.desk c.args.words.now _ _ _
-    (no_form c.in-Some.net.now (sym c.in-Some.ensures) (of_no_form c.args.words.now c.in-Some.net.now (sym c.in-Some.ensures) (g.D.Desk.files c.args.desk.now) (subst (λ (e : NoLayout). FileEnds (g.D.Desk.files c.args.desk.now) c.in-Some.net.now (g.D.Desk.faults c.args.desk.now) (g.D.Desk.faults c.lay_out.new.desk) e) c.in-Err-NotBuilt.field-0-is c.in-Err-NotBuilt.ensures.err)))
-    c.lay_out.ensures.files_stay c.lay_out.ensures.said_stays c.lay_out.ensures.counts.say c.refuse-in-Err-NotBuilt.ensures
+    (no_form c.in-Some.net.now (sym c.in-Some.ensures) (refused g c).0 (of_no_form c.args.words.now c.in-Some.net.now (sym c.in-Some.ensures) (g.D.Desk.files c.args.desk.now) (refused g c).2))
+    c.lay_out.ensures.files_stay c.lay_out.ensures.said_stays (refused g c).1 c.refuse-in-Err-NotBuilt.ensures
 
 pub returns-in-Err-Unread : goal.returns-in-Err-Unread
 returns-in-Err-Unread g c = record {
-  outcome = unread c.lay_out.ensures.said_stays (subst (λ (e : NoLayout). FileEnds (g.D.Desk.files c.args.desk.now) c.in-Some.net.now (g.D.Desk.faults c.args.desk.now) (g.D.Desk.faults c.lay_out.new.desk) e) c.in-Err-Unread.field-0-is c.in-Err-Unread.ensures.err);
+  outcome = unread c.in-Some.net.now (sym c.in-Some.ensures) c.lay_out.ensures.said_stays (subst (λ (e : NoLayout). FileEnds (g.D.Desk.files c.args.desk.now) c.in-Some.net.now (g.D.Desk.faults c.args.desk.now) (g.D.Desk.faults c.lay_out.new.desk) e) c.in-Err-Unread.field-0-is c.in-Err-Unread.ensures.err);
+  settled = λ settled. absurd settled;
   files_stay = c.lay_out.ensures.files_stay;
 }
 
 pub returns-in-Err-NoMemory : goal.returns-in-Err-NoMemory
-returns-in-Err-NoMemory g c = record { outcome = no_memory c.lay_out.ensures.said_stays; files_stay = c.lay_out.ensures.files_stay }
+returns-in-Err-NoMemory g c = record { outcome = no_memory c.lay_out.ensures.said_stays; settled = λ settled. absurd settled; files_stay = c.lay_out.ensures.files_stay }

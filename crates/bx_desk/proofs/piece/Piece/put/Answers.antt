@@ -13,6 +13,7 @@ pub loop-self-preserved : goal.loop-self-preserved
 loop-self-preserved g c = record {
   said = adds_piece _ _ _ _ _ c.split_at.result.1.now (subst (AddsUpTo _ _ _) (filled c.loop-self.self.len 4096 c.loop-self.self.buffer c.loop-self.rest.now c.copy_from_slice.new.self c.split_at.result.1.now (search rules) (c.copy_from_slice.ensures.after ∙ c.split_at.ensures.front) c.split_at.ensures.back) c.loop-self.invariant.said) c.in_ok-say.ensures.adds;
   size = less_a_buffer c.loop-self.self.len (4096 - c.loop-self.self.len) (length c.split_at.result.1.now) _ (length c.loop-self.rest.now) (omega arith) (omega arith) c.loop-self.invariant.size;
+  quiet = λ h. absurd (omega (arith, (c.loop-self.invariant.quiet h).1));
   counts = search rules;
   no_fault = search rules;
   files_stay = search rules;

@@ -1,1 +1,3 @@
 pub mod Op
+pub mod Nets
+pub mod Values

@@ -2,12 +2,19 @@
 //! stand in a user's file. Nothing here reads a file, prints or decides anything.
 #![tactic(auto)]
 
+mod args;
+mod driver;
+pub mod laws;
 mod memory;
 mod name;
+mod net;
 mod op;
 
+pub use args::Args;
+pub use driver::Driver;
 pub use memory::NoMemory;
 pub use name::Name;
+pub use net::Net;
 pub use op::Op;
 
 #[cfg(test)]

@@ -1,0 +1,2 @@
+pub mod Acyclic
+pub mod Valuations

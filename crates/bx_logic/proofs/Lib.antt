@@ -1,2 +1,4 @@
 pub mod Acyclic
 pub mod Valuations
+pub mod Tallies
+pub mod Ways

@@ -1,3 +1,4 @@
 pub mod Op
 pub mod Nets
 pub mod Values
+pub mod Known

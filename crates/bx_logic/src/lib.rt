@@ -4,6 +4,8 @@
 
 mod args;
 mod driver;
+mod eval;
+mod gate;
 pub mod laws;
 mod memory;
 mod name;

@@ -1,16 +1,16 @@
 -- A net has exactly one valuation, since no net depends on itself.
-use Rattle.std.proofs.Common.{◌≡◌, ℕ, suc, ◌+◌, ◌<◌, Bool, false, List, [], ◌∷◌, length, map, refl, sym, ◌∙◌, ap, arith, inl, inr}
+use Rattle.std.proofs.Common.{take, ◌≤◌, ◌≡◌, ℕ, suc, ◌+◌, ◌<◌, Bool, false, List, [], ◌∷◌, length, map, refl, sym, ◌∙◌, ap, arith, inl, inr}
 use Rattle.std.specs.List.{All, AllByRecursion, range_with_len, sum_by}
 use Rattle.std.proofs.lemmas.Bool.{cases_lt}
-use Rattle.std.proofs.lemmas.List.{ext_get_or, get_or_past}
+use Rattle.std.proofs.lemmas.List.{length-map, take_all, ext_get_or, get_or_past}
 use Rattle.std.proofs.lemmas.List.FromFn.{length-map-range_with_len, get_or-map-range_with_len}
 use Rattle.std.proofs.lemmas.List.Sums.{sum_by-cons}
 use Rattle.std.proofs.lemmas.List.Elements.{All-contains, recursion_from_All, All-contains_itself, All-get_or}
 use Rattle.bx_logic.specs.declared.driver.Driver.{Driver}
 use Rattle.bx_logic.specs.declared.driver.Driver.TheVariants.{Input, Constant, Gate}
 use Rattle.bx_logic.specs.Op.{op_value}
-use Rattle.bx_logic.specs.Nets.{arguments_of, driver_at, Reads, IsAcyclic, IsDriver, Netlist, IsNet}
-use Rattle.bx_logic.specs.Values.{value_of, driver_value, IsNetValuation, IsOnlyNetValuation}
+use Rattle.bx_logic.specs.Nets.{arguments_of, driver_at, Reads, IsAcyclic, IsDriver, Netlist, IsNet, output_nets}
+use Rattle.bx_logic.specs.Values.{value_of, driver_value, IsNetValuation, IsOnlyNetValuation, AreOutputValues}
 use Rattle.bx_logic.proofs.Acyclic.{all-weaker, unroll, IsLocal, settled, unrolled, same_unrolled}
 
 -- each net reads nets of the list
@@ -124,3 +124,17 @@ only_valuation drivers bits acyclic within =
 
 pub net-reads_within : (net : Netlist) → IsNet net → ReadsWithin net.drivers
 net-reads_within net h = reads_within (length net.inputs) net.drivers h.drivers
+
+-- where all outputs were read in every valuation
+pub all_read : (net : Netlist) (bits outputs : List Bool) (j : ℕ) → IsNet net → length net.outputs ≤ j →
+    ((values : List Bool) → IsNetValuation net.drivers bits values → outputs ≡ map (value_of values) (take j (output_nets net))) →
+    AreOutputValues net bits outputs
+all_read net bits outputs j h l read =
+    let only = only_valuation net.drivers bits h.acyclic (net-reads_within net h) in
+    let length_is = length-map net.outputs (λ (output : List ℕ × ℕ). output.1) in
+    record {
+      values = the_values net.drivers bits;
+      valuation = only;
+      read = read (the_values net.drivers bits) only.is
+          ∙ ap (λ (ns : List ℕ). map (value_of (the_values net.drivers bits)) ns) (take_all j (output_nets net) (omega (arith, length_is)));
+    }

@@ -25,8 +25,12 @@ pub record IsOnlyNetValuation (drivers : List Driver) (bits values : List Bool) 
   pub is : IsNetValuation drivers bits values
   pub only : (others : List Bool) → IsNetValuation drivers bits others → others ≡ values
 
+-- the values of the outputs, in order, where the nets have these values
+abbrev pub output_values : Netlist → List Bool → List Bool
+output_values net values = map (value_of values) (output_nets net)
+
 -- each output has the value of its net in the one valuation
 pub record AreOutputValues (net : Netlist) (bits outputs : List Bool) : Type 0 where
   pub values : List Bool
   pub valuation : IsOnlyNetValuation net.drivers bits values
-  pub read : outputs ≡ map (value_of values) (output_nets net)
+  pub read : outputs ≡ output_values net values

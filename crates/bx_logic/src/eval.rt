@@ -1,8 +1,8 @@
 //! The values of a net's outputs for given values of its inputs. A net is evaluated before what reads
 //! it, each once, and the way to it is kept in a list, so that depth costs no more than width.
-ghost use Rattle.std.specs.Prelude.{◌≡◌, ◌<◌, ◌++◌, [], List, length, map, take, IfOk, OnOk, OnErr, is_ok, if◌then◌else◌};
-ghost use Rattle.bx_logic.specs.Nets.{IsNet, output_nets};
-ghost use Rattle.bx_logic.specs.Values.{IsNetValuation, AreOutputValues, value_of};
+ghost use Rattle.std.specs.Prelude.{◌≡◌, ◌<◌, ◌++◌, [], length, OnOk, OnErr};
+ghost use Rattle.bx_logic.specs.Nets.{IsNet};
+ghost use Rattle.bx_logic.specs.Values.{AreOutputValues};
 ghost use Rattle.bx_logic.specs.Known.{IsKnown, IsRight, KeepsKnown, frame_for};
 
 use crate::gate::driven_value;
@@ -65,5 +65,40 @@ impl Net {
             }
         }
         Ok(())
+    }
+
+    /// Puts the values of the outputs, in order, into an empty list.
+    fn read_outputs(
+        &self,
+        alloc: Global,
+        bits: &[bool],
+        out: &mut Vec<bool>,
+    ) -> Result<(), NoMemory>
+        requires bits { length bits.now ≡ length self.now.inputs }
+        requires empty { out.old.items ≡ [] }
+        ensures { OnOk result (AreOutputValues self.now bits.now out.new.items) }
+    {
+        let mut known = vec![in alloc; None; self.len() as usize]?;
+        for j in 0..self.output_count() {
+            let net = self.output_net(j);
+            self.settle(alloc, bits, &mut known, net)?;
+            out.push(known[net as usize].unwrap())?;
+        }
+        Ok(())
+    }
+
+    /// Leaves in `out` the values of the outputs, in order, for these values of the inputs, in order.
+    /// What stood in `out` is dropped, and after a refusal nothing stands there.
+    pub fn eval(&self, alloc: Global, bits: &[bool], out: &mut Vec<bool>) -> Result<(), NoMemory>
+        requires { length bits.now ≡ length self.now.inputs }
+        ensures values { OnOk result (AreOutputValues self.now bits.now out.new.items) }
+        ensures refused { OnErr result (out.new.items ≡ []) }
+    {
+        out.clear();
+        let read = self.read_outputs(alloc, bits, out);
+        if read.is_err() {
+            out.clear();
+        }
+        read
     }
 }

@@ -2,3 +2,4 @@ pub mod Acyclic
 pub mod Valuations
 pub mod Tallies
 pub mod Ways
+pub mod Ascending

@@ -2,3 +2,4 @@ pub mod Op
 pub mod Nets
 pub mod Values
 pub mod Known
+pub mod Ascending

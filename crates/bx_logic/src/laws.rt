@@ -1,10 +1,29 @@
 //! Laws about the definitions alone, each the clause of a function with an empty body. Nothing here
 //! runs.
-ghost use Rattle.std.specs.Prelude.{List, Bool};
-ghost use Rattle.bx_logic.specs.Nets.{Netlist, IsNet};
+ghost use Rattle.std.specs.Prelude.{◌≡◌, ℕ, ◌<◌, List, [], ◌∷◌, Bool, true, false, All, length};
+ghost use Rattle.bx_logic.specs.declared.op.Op.TheVariants.{Nand, Xnor};
+ghost use Rattle.bx_logic.specs.Op.{op_value};
+ghost use Rattle.bx_logic.specs.Nets.{Netlist, IsNet, Reads, output_nets};
+ghost use Rattle.bx_logic.specs.Ascending.{IsAscending};
 ghost use Rattle.bx_logic.specs.Values.{IsOnlyNetValuation};
 
 /// For any values of its inputs the nets of a net have exactly one valuation.
 pub fn a_net_has_one_valuation()
     ensures { (net : Netlist) (bits : List Bool) → IsNet net → (values : List Bool) × IsOnlyNetValuation net.drivers bits values }
+{}
+
+/// Where the inputs come first and each gate reads earlier nets alone, the lists make a net.
+pub fn an_ascending_list_makes_a_net()
+    ensures { (net : Netlist) → length net.inputs < 4294967296 → length net.outputs < 4294967296 → length net.drivers < 4294967296 → All (λ n. n < length net.drivers) (output_nets net) → IsAscending (length net.inputs) net.drivers → IsNet net }
+{}
+
+/// Where a net reads itself, the lists make no net.
+pub fn a_net_that_reads_itself_is_none()
+    ensures { (net : Netlist) (n : ℕ) → Reads net.drivers n n → IsNet net → ⊥ }
+{}
+
+/// `Nand` and `Xnor` of three arguments are the negations of the conjunction and the parity of all.
+pub fn n_ary_operations_negate_once()
+    ensures nand { op_value Nand (true ∷ true ∷ false ∷ []) ≡ true }
+    ensures xnor { op_value Xnor (true ∷ true ∷ false ∷ []) ≡ true }
 {}

@@ -20,16 +20,4 @@ pub use net::Net;
 pub use op::Op;
 
 #[cfg(test)]
-mod tests {
-    use super::*;
-    use std::test::Fail;
-
-    #[test]
-    fn a_name_keeps_its_bytes(rt: HostRuntime) -> Result<(), Fail> {
-        let bytes = b"clk_2\0\xff".to_vec(rt.alloc())?;
-        let name = Name::new(bytes);
-        assert_eq!(rt; name.as_slice(), b"clk_2\0\xff".as_slice());
-        assert_eq!(rt; name.into_vec().as_slice(), b"clk_2\0\xff".as_slice());
-        Ok(())
-    }
-}
+mod tests;

@@ -19,8 +19,8 @@ is_driver inputs n nets (Input i) l h = omega arith
 is_driver inputs n nets (Constant b) l h = tt
 is_driver inputs n nets (Gate op args) l h = (h.1, All-weaker (λ m. m < n) (λ m. m < nets) (λ m k. omega arith) args h.2)
 
-may-stand : (inputs : ℕ) (drivers : List Driver) → IsAscending inputs drivers → (n m : ℕ) → Reads drivers n m → m < n
-may-stand inputs drivers h n m reads =
+reads-earlier : (inputs : ℕ) (drivers : List Driver) → IsAscending inputs drivers → (n m : ℕ) → Reads drivers n m → m < n
+reads-earlier inputs drivers h n m reads =
     elim (cases_lt n (length drivers)) [
       | inl l ↦ All-contains (λ m. m < n) (arguments_of (driver_at drivers n)) m (reads-less inputs n (driver_at drivers n) (h.each n l)) reads
       | inr past ↦
@@ -31,9 +31,9 @@ may-stand inputs drivers h n m reads =
     ]
 
 depends-less : (inputs : ℕ) (drivers : List Driver) → IsAscending inputs drivers → (n m : ℕ) → DependsOn drivers n m → m < n
-depends-less inputs drivers h _ _ (directly n m reads) = may-stand inputs drivers h n m reads
+depends-less inputs drivers h _ _ (directly n m reads) = reads-earlier inputs drivers h n m reads
 depends-less inputs drivers h _ _ (through n k m reads d) =
-    let first = may-stand inputs drivers h n k reads in
+    let first = reads-earlier inputs drivers h n k reads in
     let rest = depends-less inputs drivers h k m d in
     omega (arith, first, rest)
 

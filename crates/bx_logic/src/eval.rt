@@ -78,10 +78,11 @@ impl Net {
         requires empty { out.old.items ≡ [] }
         ensures { OnOk result (AreOutputValues self.now bits.now out.new.items) }
     {
-        let mut known = vec![in alloc; None; self.len() as usize]?;
+        let mut values = vec![in alloc; None; self.len() as usize]?;
+        let known = values.as_mut_slice();
         for j in 0..self.output_count() {
             let net = self.output_net(j);
-            self.settle(alloc, bits, &mut known, net)?;
+            self.settle(alloc, bits, known, net)?;
             out.push(known[net as usize].unwrap())?;
         }
         Ok(())

@@ -1,5 +1,6 @@
-//! What every crate of bestagon stands on: the one answer for want of memory, and names as they
-//! stand in a user's file. Nothing here reads a file, prints or decides anything.
+//! What every crate of bestagon stands on: the one answer for want of memory, names as they stand in
+//! a user's file, and the nets of a module with their values. Nothing here reads a file, prints or
+//! decides anything.
 #![tactic(auto)]
 
 mod args;

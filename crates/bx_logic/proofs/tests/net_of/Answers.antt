@@ -1,4 +1,4 @@
-use Rattle.std.proofs.Common.{◌≡◌, ◌∙◌, ◌<◌, ◌≤◌, IsTrue, All, length, map, take, List, ℕ, refl, sym, subst, arith, rules, ap}
+use Rattle.std.proofs.Common.{◌≡◌, ◌∙◌, ◌<◌, ◌≤◌, IsTrue, All, length, map, take, List, ℕ, sym, subst, arith, rules, ap}
 use Rattle.std.proofs.lemmas.List.{length-map, take_all}
 use Rattle.bx_logic.specs.declared.driver.Driver.{Driver}
 use Rattle.bx_logic.specs.Nets.{IsNet, netlist}

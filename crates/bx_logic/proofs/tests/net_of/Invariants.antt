@@ -1,4 +1,4 @@
-use Rattle.std.proofs.Common.{◌≡◌, List, ℕ, length, map, take}
+use Rattle.std.proofs.Common.{◌≡◌, List, ℕ, map, take}
 use Rattle.bx_logic.proofs.tests.net_of.Given as goal
 
 abbrev pub invariant-loop-net : goal.invariant-loop-net

@@ -54,21 +54,26 @@ pub record Netlist : Type 0 where
   pub outputs : List (List ℕ × ℕ)
   pub drivers : List Driver
 
+-- the net of these parts
 abbrev pub netlist : List ℕ → List (List ℕ) → List (List ℕ × ℕ) → List Driver → Netlist
 netlist name inputs outputs drivers = record { name = name; inputs = inputs; outputs = outputs; drivers = drivers }
 
+-- the names and the nets of the outputs, in order
 abbrev pub output_names : Netlist → List (List ℕ)
 output_names net = map (λ (output : List ℕ × ℕ). output.0) net.outputs
 
 abbrev pub output_nets : Netlist → List ℕ
 output_nets net = map (λ (output : List ℕ × ℕ). output.1) net.outputs
 
+-- the lists make a net
 pub record IsNet (net : Netlist) : Type 0 where
   -- there are few enough for numbers of 32 bits
   pub few_inputs : length net.inputs < 4294967296
   pub few_outputs : length net.outputs < 4294967296
   pub few_nets : length net.drivers < 4294967296
+  -- each number in a driver, and each that an output has, stands for something
   pub drivers : All (IsDriver (length net.inputs) (length net.drivers)) net.drivers
   pub outputs : All (λ n. n < length net.drivers) (output_nets net)
+  -- each input drives one net
   pub inputs : (i : ℕ) → i < length net.inputs → IsDrivenOnce net.drivers i
   pub acyclic : IsAcyclic net.drivers

@@ -1,1 +1,5 @@
 pub mod Op
+pub mod Nets
+pub mod Values
+pub mod Known
+pub mod Ascending

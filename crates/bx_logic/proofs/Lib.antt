@@ -1,0 +1,5 @@
+pub mod Acyclic
+pub mod Valuations
+pub mod Tallies
+pub mod Ways
+pub mod Ascending

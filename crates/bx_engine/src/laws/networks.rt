@@ -33,6 +33,11 @@ pub fn the_network_of_one_inversion()
     ensures slot { ¬ IsNetwork (record { nodes = (chain_network 1).nodes; edges = link 0 ∷ (record (link 1) { slot = 1 }) ∷ [] }) }
 {}
 
+/// Two `not` that feed each other are no mapped network.
+pub fn a_ring_is_no_network()
+    ensures { ¬ IsNetwork (record { nodes = not_node ∷ not_node ∷ []; edges = link 0 ∷ (record (link 1) { target = 0 }) ∷ [] }) }
+{}
+
 /// A network in which a value meets its own inversion in an `and`. Of the two ways to the `and` the
 /// longer one counts; the input refutes four rows, and no node five. Its one valuation ends in false.
 pub fn two_ways_lead_through_the_branching_network()

@@ -3,6 +3,7 @@ pub mod Valuations
 pub mod Chains
 pub mod Columns
 pub mod Layouts
+pub mod Pins
 pub mod Ascending
 pub mod BranchingNetworks
 pub mod ChainNetworks

@@ -14,6 +14,7 @@ pub mod Saying
 pub mod Joined
 pub mod Lines
 pub mod Examples
+pub mod TwoLines
 pub mod FormTable
 pub mod Tiles
 pub mod Flow

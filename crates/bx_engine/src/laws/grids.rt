@@ -9,9 +9,9 @@ ghost use Rattle.bx_engine.specs.declared.forms.Side.{Side};
 ghost use Rattle.bx_engine.specs.Forms.{form_name, opposite};
 ghost use Rattle.bx_engine.specs.Tiles.{tile_count, y_of, zone_of, below, above};
 ghost use Rattle.bx_engine.specs.FormTable.{IsFormTable};
-ghost use Rattle.bx_engine.specs.Grids.{FormGrid, IsFormGrid, IsSound, LosesNothing, reads, IsOnlyBorderValuation, Pins, pin_names, AreDifferent, IsUsed, ArePins, Computes};
+ghost use Rattle.bx_engine.specs.Grids.{FormGrid, IsFormGrid, IsSound, LosesNothing, reads, IsBorderValuation, IsOnlyBorderValuation, Pins, pin_names, AreDifferent, IsUsed, ArePins, Computes};
 ghost use Rattle.bx_engine.specs.Columns.{column, column_pins, input_r, output_l, output_r, not_ll, not_rr};
-ghost use Rattle.bx_engine.specs.Examples.{conjoined, conjoined_with, conjoined_borders, conjoined_pins, conjunction_of, wired, averted, cut_short, negation, three_row_pins, exchanged_pins};
+ghost use Rattle.bx_engine.specs.Examples.{conjoined, conjoined_with, conjoined_borders, conjoined_pins, conjunction_of, double, cross, two_lines, AreRead, wired, averted, cut_short, negation, three_row_pins, exchanged_pins};
 
 /// The tile below on a side and the tile above on the opposite side undo each other.
 pub fn the_tiles_above_and_below_agree()
@@ -88,6 +88,16 @@ pub fn a_conjunction_has_these_values()
     ensures both { conjoined_borders true true ≡ false ∷ true ∷ true ∷ false ∷ true ∷ replicate 7 false }
     ensures read { reads conjoined (conjoined_borders true true) 4 ≡ true ∷ [] }
     ensures one { conjoined_borders true false ≡ false ∷ true ∷ replicate 10 false }
+{}
+
+/// A `double` or a `cross` below two inputs makes a sound grid. Below the `double` the outputs read the
+/// inputs straight, and below the `cross` exchanged, for all values.
+pub fn a_double_leads_straight_and_a_cross_exchanges()
+    ensures names { (form_name double ≡ Some (codes "double")) × (form_name cross ≡ Some (codes "cross")) }
+    ensures whole { IsFormGrid (two_lines double) × IsFormGrid (two_lines cross) }
+    ensures sound { IsSound (two_lines double) × IsSound (two_lines cross) }
+    ensures straight { (given : ℕ → Bool) (borders : List Bool) → IsBorderValuation (two_lines double) given borders → AreRead (two_lines double) borders (given 0) (given 1) }
+    ensures exchanged { (given : ℕ → Bool) (borders : List Bool) → IsBorderValuation (two_lines cross) given borders → AreRead (two_lines cross) borders (given 1) (given 0) }
 {}
 
 /// A wire where an inversion should be computes something else.

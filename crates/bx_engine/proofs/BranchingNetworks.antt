@@ -51,6 +51,7 @@ enter v most h a b = counted (λ operand. length (entering edges v operand)) mos
 pub branching_is_network : IsNetwork branching_network
 branching_is_network = record {
   within = omega arith;
+  forward = omega arith;
   leaves = each_node (λ v kind. (slot : ℕ) → length (leaving edges v slot) ≡ one_if (nat_lt slot (slots kind)))
       (leave 0 1 (omega arith) refl refl) (leave 1 2 (omega arith) refl refl) (leave 2 1 (omega arith) refl refl) (leave 3 1 (omega arith) refl refl) (leave 4 0 (omega arith) refl refl);
   enters = each_node (λ v kind. (operand : ℕ) → length (entering edges v operand) ≡ one_if (nat_lt operand (operands kind)))

@@ -265,6 +265,9 @@ enters_of k (suc v) node (inner a b c) operand = rw c (entering_one (k + 1) v op
 enters_of k zero node (last a b) operand = absurd (omega arith)
 enters_of k (suc v) node (last a b) operand = rw b (entering_one (k + 1) v operand (omega arith))
 
+link_forward : (n : ℕ) (e : Edge) → Member e (links n) → e.source < e.target
+link_forward n e m = let l = link_of_member n e m in let a = l.target in omega arith
+
 links_ascend : (n : ℕ) → Ascends IsBefore (links n)
 links_ascend n = Ascends-map ◌<◌ IsBefore link (range_with_len 0 n) (λ v w m n l. inl l) (Ascends-range 0 n)
 
@@ -279,6 +282,7 @@ link_within k e m =
 pub chain_is_network : (k : ℕ) → IsNetwork (chain_network k)
 chain_is_network k = record {
   within = AllByRecursion-from_member (λ (e : Edge). (e.source < suc (length (rest k))) × (e.target < suc (length (rest k)))) (links (k + 1)) (link_within k);
+  forward = AllByRecursion-from_member (λ (e : Edge). e.source < e.target) (links (k + 1)) (link_forward (k + 1));
   leaves = λ v kind (node, found, same). subst (Leaves k v) same (leaves_of k v node (place k v node found));
   enters = λ v kind (node, found, same). subst (Enters k v) same (enters_of k v node (place k v node found));
   ascending = AllPairs-from_ascends IsBefore (links (k + 1)) (links_ascend (k + 1));

@@ -12,7 +12,7 @@ use Rattle.bx_engine.specs.declared.forms.Side.{Side}
 use Rattle.bx_engine.specs.declared.forms.Side.TheVariants.{Left, Right}
 use Rattle.bx_engine.specs.declared.forms.Shape.{Shape}
 use Rattle.bx_engine.specs.Forms.{opposite, shape_of, shape_takes, shape_sends, shape_holds}
-use Rattle.bx_engine.specs.Tiles.{x_of, y_of, is_odd, before, column_beside, tile_at, above, below, border, entering}
+use Rattle.bx_engine.specs.Tiles.{x_of, y_of, is_odd, one_less, column_beside, tile_at, above, below, border, entering}
 use Rattle.bx_engine.specs.Grids.{FormGrid, shape_in, shape_at, takes, sends, sends_from, Holds, IsFormGrid, IsSound, value_of, reads, shape_value, sent, IsBorderValuation}
 use Rattle.bx_engine.specs.Columns.{column, column_form, column_tiles, input_r, output_l, output_r, not_ll, not_rr}
 use Rattle.bx_engine.proofs.Tiles.{is_odd-suc}
@@ -60,7 +60,7 @@ tile_at-column k y h =
     let e : y * 1 + 0 ≡ y = omega arith in
     rw (lt-ltb y (k + 2) h) (ap Some e)
 
-above-column : (k t : ℕ) (side : Side) → above (ratio k) t side ≡ tile_at (ratio k) (column_beside (is_odd t) side 0) (before t)
+above-column : (k t : ℕ) (side : Side) → above (ratio k) t side ≡ tile_at (ratio k) (column_beside (is_odd t) side 0) (one_less t)
 above-column k t side = rw (x_of-column k t, y_of-column k t)
 
 below-column : (k t : ℕ) (side : Side) → below (ratio k) t side ≡ tile_at (ratio k) (column_beside (is_odd t) side 0) (Some (t + 1))
@@ -70,7 +70,7 @@ above-way : (k t : ℕ) → t + 1 < k + 2 → above (ratio k) (suc t) (way (is_o
 above-way k t h = above-column k (suc t) (way (is_odd (suc t))) ∙ beside-way (ratio k) (is_odd (suc t)) (Some t) ∙ tile_at-column k t (omega arith)
 
 above-other : (k t : ℕ) → above (ratio k) t (opposite (way (is_odd t))) ≡ None
-above-other k t = above-column k t (opposite (way (is_odd t))) ∙ beside-other k (is_odd t) (before t)
+above-other k t = above-column k t (opposite (way (is_odd t))) ∙ beside-other k (is_odd t) (one_less t)
 
 below-way : (k t : ℕ) → t + 1 < k + 2 → below (ratio k) t (way (is_odd t)) ≡ Some (t + 1)
 below-way k t h = below-column k t (way (is_odd t)) ∙ beside-way (ratio k) (is_odd t) (Some (t + 1)) ∙ tile_at-column k (t + 1) h

@@ -22,14 +22,14 @@ abbrev pub EachBelow : ℕ → (ℕ → Type 0) → Type 0
 EachBelow zero P = ⊤
 EachBelow (suc n) P = P n × EachBelow n P
 
-each-below : (n : ℕ) (P : ℕ → Type 0) → EachBelow n P → (t : ℕ) → t < n → P t
+pub each-below : (n : ℕ) (P : ℕ → Type 0) → EachBelow n P → (t : ℕ) → t < n → P t
 each-below zero P all t h = absurd (omega arith)
 each-below (suc n) P all t h = elim (cases_eq t n) [
   | inl e ↦ subst P (sym e) all.0
   | inr ne ↦ each-below n P all.1 t (omega arith)
 ]
 
-each-side : (n : ℕ) (P : ℕ → Side → Type 0) → EachBelow n (λ t. P t Left × P t Right) → (t : ℕ) (side : Side) → t < n → P t side
+pub each-side : (n : ℕ) (P : ℕ → Side → Type 0) → EachBelow n (λ t. P t Left × P t Right) → (t : ℕ) (side : Side) → t < n → P t side
 each-side n P all t side h = at-sides (P t) (each-below n (λ t. P t Left × P t Right) all t h) side
 
 and-last : (a b : Bool) → (a && b) ≡ (a && (b && true))

@@ -1,10 +1,9 @@
 -- The column of a chain computes the module of the chain.
-use Rattle.std.proofs.Common.{◌≡◌, ℕ, zero, suc, ◌+◌, Bool, List, [], ◌∷◌, refl, sym, subst, arith}
-use Rattle.std.specs.Prelude.{Contains}
-use Rattle.bx_verilog.specs.Module.{Text, Gives}
+use Rattle.std.proofs.Common.{ℕ, ◌+◌, Bool, List, [], inl, refl, sym, subst, arith}
+use Rattle.bx_verilog.specs.Module.{Gives}
 use Rattle.bx_verilog.specs.Chain.{Chain, IsChain, inversions, module_of}
 use Rattle.bx_engine.specs.Tiles.{tile_count}
-use Rattle.bx_engine.specs.Grids.{IsUsed, given_at, Computes, ArePins}
+use Rattle.bx_engine.specs.Grids.{given_at, Computes, ArePins}
 use Rattle.bx_engine.specs.Columns.{column, column_pins}
 use Rattle.bx_engine.proofs.Valuations.{made, only-valuation}
 use Rattle.bx_engine.proofs.Chains.{chain-gives, chain-uses}
@@ -22,17 +21,11 @@ column-computes c h a =
       outputs = (subst (λ (b : Bool). Gives (module_of c) a c.output b) (sym (output-value k (k + 1) given bs refl v.is)) (chain-gives c h a), tt);
     }
 
-Contains-only : {X : Type 0} (x y : X) → Contains (x ∷ []) y → x ≡ y
-Contains-only x y (zero, h, e) = e
-Contains-only x y (suc k, h, e) = absurd (omega arith)
-
 pub column-pins : (c : Chain) → IsChain c → ArePins (column (inversions c.statements)) (module_of c) (column_pins c)
 column-pins c h =
     let k : ℕ = inversions c.statements in
     record {
-      used = λ input i u. i;
-      known = λ input i. (i, subst (λ (net : Text). IsUsed (module_of c) net) (Contains-only c.input input i) (chain-uses c h));
-      once = (tt, tt);
+      inputs = inl ([], chain-uses c h, refl, refl);
       outputs = refl;
       first = ((omega arith, y_of-column k 0, holds-first k), tt);
       last = ((omega arith, (let y = y_of-column k (k + 1) in omega arith), holds-last k (k + 1) refl), tt);

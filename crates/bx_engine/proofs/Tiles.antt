@@ -8,7 +8,7 @@ use Rattle.bx_engine.specs.declared.grid.Ratio.{Ratio}
 use Rattle.bx_engine.specs.declared.forms.Side.{Side}
 use Rattle.bx_engine.specs.declared.forms.Side.TheVariants.{Left, Right}
 use Rattle.bx_engine.specs.Forms.{opposite}
-use Rattle.bx_engine.specs.Tiles.{tile_count, x_of, y_of, is_odd, before, column_beside, tile_at, above, below}
+use Rattle.bx_engine.specs.Tiles.{tile_count, x_of, y_of, zone_of, is_odd, one_less, column_beside, tile_at, above, below}
 
 pub is_odd-suc : (t : ℕ) → is_odd (suc t) ≡ not (is_odd t)
 is_odd-suc t = elim (cases_Bool (is_odd t)) [
@@ -48,13 +48,13 @@ beside-back false Left zero z e = cc
 beside-back false Left (suc x) z e = let s : x ≡ z = cc in ap Some (let n : z + 1 ≡ suc x = omega arith in n)
 beside-back false Right x z e = sym e
 
-before-some : (y z : ℕ) → before y ≡ Some z → y ≡ suc z
-before-some zero z e = cc
-before-some (suc y) z e = let s : y ≡ z = cc in ap suc s
+one_less-some : (y z : ℕ) → one_less y ≡ Some z → y ≡ suc z
+one_less-some zero z e = cc
+one_less-some (suc y) z e = let s : y ≡ z = cc in ap suc s
 
 -- a tile by its column and row
 
-above-at : (r : Ratio) (x y : ℕ) (side : Side) → x < r.w → above r (y * r.w + x) side ≡ tile_at r (column_beside (is_odd y) side x) (before y)
+above-at : (r : Ratio) (x y : ℕ) (side : Side) → x < r.w → above r (y * r.w + x) side ≡ tile_at r (column_beside (is_odd y) side x) (one_less y)
 above-at r x y side h = rw (mod-mul-add y r.w x h, div-mul-add y r.w x h)
 
 below-at : (r : Ratio) (x y : ℕ) (side : Side) → x < r.w → below r (y * r.w + x) side ≡ tile_at r (column_beside (is_odd y) side x) (Some (y + 1))
@@ -65,8 +65,8 @@ number-of r t y e = ap (λ row. row * r.w + x_of r t) (sym e) ∙ div-add-mod' t
 
 pub above-less : (r : Ratio) (t u : ℕ) (side : Side) → above r t side ≡ Some u → u < t
 above-less r t u side e =
-    let p = place-from r (column_beside (is_odd (y_of r t)) side (x_of r t)) (before (y_of r t)) u e in
-    let n = number-of r t (suc p.y) (before-some (y_of r t) p.y p.row_is) in
+    let p = place-from r (column_beside (is_odd (y_of r t)) side (x_of r t)) (one_less (y_of r t)) u e in
+    let n = number-of r t (suc p.y) (one_less-some (y_of r t) p.y p.row_is) in
     omega arith
 
 pub below-above : (r : Ratio) (t u : ℕ) (side : Side) → below r t side ≡ Some u → above r u (opposite side) ≡ Some t
@@ -92,8 +92,8 @@ not-not false = refl
 pub above-below : (r : Ratio) (t u : ℕ) (side : Side) → t < tile_count r → above r t side ≡ Some u → below r u (opposite side) ≡ Some t
 above-below r t u side h e =
     let x = x_of r t in
-    let p = place-from r (column_beside (is_odd (y_of r t)) side x) (before (y_of r t)) u e in
-    let row : y_of r t ≡ suc p.y = before-some (y_of r t) p.y p.row_is in
+    let p = place-from r (column_beside (is_odd (y_of r t)) side x) (one_less (y_of r t)) u e in
+    let row : y_of r t ≡ suc p.y = one_less-some (y_of r t) p.y p.row_is in
     let next : suc p.y ≡ p.y + 1 = omega arith in
     let number : (p.y + 1) * r.w + x ≡ t = number-of r t (p.y + 1) (row ∙ next) in
     let odd : not (is_odd (y_of r t)) ≡ is_odd p.y = ap (λ q. not (is_odd q)) row ∙ ap not (is_odd-suc p.y) ∙ not-not (is_odd p.y) in
@@ -105,6 +105,15 @@ above-below r t u side h e =
     ∙ ap (λ c. tile_at r c (Some (p.y + 1))) column
     ∙ tile_at-is r x (p.y + 1) (omega arith) in_grid
     ∙ ap Some number
+
+pub below-next_row : (r : Ratio) (t u : ℕ) (side : Side) → below r t side ≡ Some u → y_of r u ≡ y_of r t + 1
+below-next_row r t u side e =
+    let p = place-from r (column_beside (is_odd (y_of r t)) side (x_of r t)) (Some (y_of r t + 1)) u e in
+    let row : y_of r t + 1 ≡ p.y = cc in
+    ap (y_of r) (sym p.number) ∙ div-mul-add p.y r.w p.x p.in_row ∙ sym row
+
+pub below-next_zone : (r : Ratio) (t u : ℕ) (side : Side) → below r t side ≡ Some u → zone_of r u ≡ (zone_of r t + 1) % 4
+below-next_zone r t u side e = let row = below-next_row r t u side e in omega arith
 
 pub below-inside : (r : Ratio) (t u : ℕ) (side : Side) → below r t side ≡ Some u → u < tile_count r
 below-inside r t u side e =

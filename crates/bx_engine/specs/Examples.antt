@@ -1,9 +1,9 @@
 -- Small grids that the laws speak of: one that is right, and some that are nearly so.
-use Rattle.std.specs.Prelude.{◌&&◌, ℕ, ◌+◌, Bool, false, List, [], ◌∷◌, Some, None, take}
+use Rattle.std.specs.Prelude.{◌≡◌, ◌&&◌, ℕ, ◌+◌, Bool, false, List, [], ◌∷◌, Some, None, take}
 use Rattle.bx_logic.specs.declared.op.Op.TheVariants.{Not, And}
 use Rattle.bx_verilog.specs.Module.{Text, Module}
 use Rattle.bx_verilog.specs.Chain.{Chain, inversions}
-use Rattle.bx_engine.specs.Grids.{FormGrid, Pins}
+use Rattle.bx_engine.specs.Grids.{FormGrid, Pins, reads}
 use Rattle.bx_engine.specs.Columns.{input_r, output_l, output_r, not_ll, column_tiles}
 
 abbrev pub input_l : ℕ
@@ -14,6 +14,12 @@ wire_ll = 4
 
 abbrev pub and_l : ℕ
 and_l = 14
+
+abbrev pub double : ℕ
+double = 26
+
+abbrev pub cross : ℕ
+cross = 27
 
 -- one column of three tiles
 abbrev pub three_rows : ℕ → ℕ → ℕ → FormGrid
@@ -88,3 +94,17 @@ conjunction_of one two output = record {
   outputs = output ∷ [];
   equations = record { target = output; op = And; reads = one ∷ two ∷ [] } ∷ [];
 }
+
+-- two inputs, this form below both, and two outputs below it, in two columns of three rows
+abbrev pub two_lines : ℕ → FormGrid
+two_lines form = record {
+  ratio = record { w = 2; h = 3 };
+  tiles =
+      Some input_r ∷ Some input_l
+      ∷ Some form ∷ None
+      ∷ Some output_r ∷ Some output_l ∷ [];
+}
+
+-- the outputs read these values, from the left tile to the right one
+abbrev pub AreRead : FormGrid → List Bool → Bool → Bool → Type 0
+AreRead g borders left right = (reads g borders 4 ≡ left ∷ []) × (reads g borders 5 ≡ right ∷ [])

@@ -126,16 +126,23 @@ abbrev pub AreDifferent : {X : Type 0} → List X → Type 0
 AreDifferent [] = ⊤
 AreDifferent (x ∷ xs) = AllByRecursion (λ y. y ≢ x) xs × AreDifferent xs
 
--- the value of the net is read on the way to an output
+-- the value of the net is read on the way to an output. That is the use of a net in modules without
+-- constants, which are all that is read today: beside a constant a value can be read and count for nothing
 pub data IsUsed (m : Module) : Text → Type 0 where
   output : (net : Text) → Contains m.outputs net → IsUsed m net
   read : (net : Text) (e : Equation) → Contains m.equations e → IsUsed m e.target → Contains e.reads net → IsUsed m net
 
+-- the names are those of the used ones of these inputs, in their order: each once, where no two inputs
+-- have the same name
+abbrev pub AreUsed : Module → List Text → List Text → Type 0
+AreUsed m [] names = names ≡ []
+AreUsed m (input ∷ inputs) names =
+    ((rest : List Text) × IsUsed m input × (names ≡ input ∷ rest) × AreUsed m inputs rest)
+    ⊎ ((¬ IsUsed m input) × AreUsed m inputs names)
+
 pub record ArePins (g : FormGrid) (m : Module) (pins : Pins) : Type 0 where
   -- one tile of the first row for each used input, and one of the last row for each output
-  pub used : (input : Text) → Contains m.inputs input → IsUsed m input → Contains (pin_names pins.inputs) input
-  pub known : (input : Text) → Contains (pin_names pins.inputs) input → Contains m.inputs input × IsUsed m input
-  pub once : AreDifferent (pin_names pins.inputs)
+  pub inputs : AreUsed m m.inputs (pin_names pins.inputs)
   pub outputs : pin_names pins.outputs ≡ m.outputs
   pub first : AllByRecursion (λ t. IsTile g t × IsInFirstRow g t × Holds g t Input) (pin_tiles pins.inputs)
   pub last : AllByRecursion (λ t. IsTile g t × IsInLastRow g t × Holds g t Output) (pin_tiles pins.outputs)

@@ -59,9 +59,11 @@ HasKind N v kind = (node : Node) × (slice_get N.nodes v ≡ Some node) × (node
 abbrev pub one_if : Bool → ℕ
 one_if b = if b then 1 else 0
 
--- one edge by each slot and each operand that a node's kind has, and none by another; the edges ascend
+-- one edge by each slot and each operand that a node's kind has, and none by another; the edges ascend,
+-- and each leads to a node further on, so that no node depends on itself
 pub record IsNetwork (N : Network) : Type 0 where
   pub within : AllByRecursion (λ e. (e.source < length N.nodes) × (e.target < length N.nodes)) N.edges
+  pub forward : AllByRecursion (λ e. e.source < e.target) N.edges
   pub leaves : (v : ℕ) (kind : Kind) → HasKind N v kind → (slot : ℕ) → length (leaving N.edges v slot) ≡ one_if (nat_lt slot (slots kind))
   pub enters : (v : ℕ) (kind : Kind) → HasKind N v kind → (operand : ℕ) → length (entering N.edges v operand) ≡ one_if (nat_lt operand (operands kind))
   pub ascending : AllPairs IsBefore N.edges

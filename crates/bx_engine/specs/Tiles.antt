@@ -17,18 +17,22 @@ x_of r t = t % r.w
 abbrev pub y_of : Ratio → ℕ → ℕ
 y_of r t = t / r.w
 
+-- the clock zone of a tile: that of row y is y mod 4
+abbrev pub zone_of : Ratio → ℕ → ℕ
+zone_of r t = y_of r t % 4
+
 abbrev pub is_odd : ℕ → Bool
 is_odd y = y % 2 == 1
 
 -- one less, if there is such a number
-abbrev pub before : ℕ → Option ℕ
-before zero = None
-before (suc n) = Some n
+abbrev pub one_less : ℕ → Option ℕ
+one_less zero = None
+one_less (suc n) = Some n
 
 -- the column of the tile that stands on this side of column x, in the rows below and above an odd row
 -- or an even one
 abbrev pub column_beside : Bool → Side → ℕ → Option ℕ
-column_beside false Left x = before x
+column_beside false Left x = one_less x
 column_beside false Right x = Some x
 column_beside true Left x = Some x
 column_beside true Right x = Some (x + 1)
@@ -43,7 +47,7 @@ abbrev pub below : Ratio → ℕ → Side → Option ℕ
 below r t side = tile_at r (column_beside (is_odd (y_of r t)) side (x_of r t)) (Some (y_of r t + 1))
 
 abbrev pub above : Ratio → ℕ → Side → Option ℕ
-above r t side = tile_at r (column_beside (is_odd (y_of r t)) side (x_of r t)) (before (y_of r t))
+above r t side = tile_at r (column_beside (is_odd (y_of r t)) side (x_of r t)) (one_less (y_of r t))
 
 -- the lower left or lower right side of a tile, as a border
 abbrev pub border : ℕ → Side → ℕ

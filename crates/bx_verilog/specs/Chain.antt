@@ -91,7 +91,7 @@ is_not _ = false
 abbrev pub inversions : List Statement → ℕ
 inversions ss = count_by (λ s. is_not s.op) ss
 
--- a word of the language, and so no name
+-- a word that the profile reserves; other words that the language's standard reserves can be names
 abbrev pub IsReserved : Text → Type 0
 IsReserved word = Contains (map (λ w. w.now) RESERVED) word
 

@@ -1,22 +1,28 @@
 //! Laws about forms, grids and columns: what the table says of each form, that a grid has one
 //! valuation, that the column of a chain is sound and computes its module, and near misses that the
 //! definitions refuse. Nothing here runs.
-ghost use Rattle.std.specs.Prelude.{◌≡◌, ◌≢◌, ◌==◌, ◌<◌, ℕ, Bool, true, false, if◌then◌else◌, List, [], ◌∷◌, ◌++◌, replicate, codes};
-ghost use Rattle.bx_verilog.specs.Module.{Text};
+ghost use Rattle.std.specs.Prelude.{◌≡◌, ◌≢◌, ◌==◌, ◌<◌, ◌↔◌, ℕ, ◌+◌, ◌%◌, Bool, true, false, if◌then◌else◌, List, [], ◌∷◌, ◌++◌, replicate, codes, Contains};
+ghost use Rattle.bx_verilog.specs.Module.{Text, Module};
 ghost use Rattle.bx_verilog.specs.Chain.{Chain, IsChain, inversions, module_of};
 ghost use Rattle.bx_engine.specs.declared.grid.Ratio.{Ratio};
 ghost use Rattle.bx_engine.specs.declared.forms.Side.{Side};
 ghost use Rattle.bx_engine.specs.Forms.{form_name, opposite};
-ghost use Rattle.bx_engine.specs.Tiles.{tile_count, below, above};
+ghost use Rattle.bx_engine.specs.Tiles.{tile_count, y_of, zone_of, below, above};
 ghost use Rattle.bx_engine.specs.FormTable.{IsFormTable};
-ghost use Rattle.bx_engine.specs.Grids.{FormGrid, IsFormGrid, IsSound, LosesNothing, reads, IsOnlyBorderValuation, ArePins, Computes};
+ghost use Rattle.bx_engine.specs.Grids.{FormGrid, IsFormGrid, IsSound, LosesNothing, reads, IsBorderValuation, IsOnlyBorderValuation, Pins, pin_names, AreDifferent, IsUsed, ArePins, Computes};
 ghost use Rattle.bx_engine.specs.Columns.{column, column_pins, input_r, output_l, output_r, not_ll, not_rr};
-ghost use Rattle.bx_engine.specs.Examples.{conjoined, conjoined_with, conjoined_borders, conjoined_pins, conjunction_of, wired, averted, cut_short, negation, three_row_pins, exchanged_pins};
+ghost use Rattle.bx_engine.specs.Examples.{conjoined, conjoined_with, conjoined_borders, conjoined_pins, conjunction_of, double, cross, two_lines, AreRead, wired, averted, cut_short, negation, three_row_pins, exchanged_pins};
 
 /// The tile below on a side and the tile above on the opposite side undo each other.
 pub fn the_tiles_above_and_below_agree()
     ensures below { (r : Ratio) (t u : ℕ) (side : Side) → below r t side ≡ Some u → above r u (opposite side) ≡ Some t }
     ensures above { (r : Ratio) (t u : ℕ) (side : Side) → t < tile_count r → above r t side ≡ Some u → below r u (opposite side) ≡ Some t }
+{}
+
+/// What goes out of a tile goes to the next row, and so to the next of the four clock zones.
+pub fn a_border_leads_to_the_next_row()
+    ensures row { (r : Ratio) (t u : ℕ) (side : Side) → below r t side ≡ Some u → y_of r u ≡ y_of r t + 1 }
+    ensures zone { (r : Ratio) (t u : ℕ) (side : Side) → below r t side ≡ Some u → zone_of r u ≡ (zone_of r t + 1) % 4 }
 {}
 
 /// What goes out of a tile of a sound grid comes in at the tile below.
@@ -40,6 +46,13 @@ pub fn a_column_is_sound()
 /// tile for either.
 pub fn a_column_has_its_pins()
     ensures { (c : Chain) → IsChain c → ArePins (column (inversions c.statements)) (module_of c) (column_pins c) }
+{}
+
+/// The input pins have the names of the used inputs and no others, and each name once if no two inputs
+/// have the same.
+pub fn pins_are_named_as_the_used_inputs()
+    ensures names { (g : FormGrid) (m : Module) (pins : Pins) → ArePins g m pins → (input : Text) → Contains (pin_names pins.inputs) input ↔ (Contains m.inputs input × IsUsed m input) }
+    ensures once { (g : FormGrid) (m : Module) (pins : Pins) → ArePins g m pins → AreDifferent m.inputs → AreDifferent (pin_names pins.inputs) }
 {}
 
 /// The column of a chain computes the module of the chain.
@@ -75,6 +88,16 @@ pub fn a_conjunction_has_these_values()
     ensures both { conjoined_borders true true ≡ false ∷ true ∷ true ∷ false ∷ true ∷ replicate 7 false }
     ensures read { reads conjoined (conjoined_borders true true) 4 ≡ true ∷ [] }
     ensures one { conjoined_borders true false ≡ false ∷ true ∷ replicate 10 false }
+{}
+
+/// A `double` or a `cross` below two inputs makes a sound grid. Below the `double` the outputs read the
+/// inputs straight, and below the `cross` exchanged, for all values.
+pub fn a_double_leads_straight_and_a_cross_exchanges()
+    ensures names { (form_name double ≡ Some (codes "double")) × (form_name cross ≡ Some (codes "cross")) }
+    ensures whole { IsFormGrid (two_lines double) × IsFormGrid (two_lines cross) }
+    ensures sound { IsSound (two_lines double) × IsSound (two_lines cross) }
+    ensures straight { (given : ℕ → Bool) (borders : List Bool) → IsBorderValuation (two_lines double) given borders → AreRead (two_lines double) borders (given 0) (given 1) }
+    ensures exchanged { (given : ℕ → Bool) (borders : List Bool) → IsBorderValuation (two_lines cross) given borders → AreRead (two_lines cross) borders (given 1) (given 0) }
 {}
 
 /// A wire where an inversion should be computes something else.

@@ -1,10 +1,11 @@
 //! What holds of mapped networks, and of the network of a chain. Each law is the clause of a function
 //! that does nothing; how a network is found from a module is left to others.
 
-ghost use Rattle.std.specs.Prelude.{◌≡◌, ℕ, ◌+◌, ◌<◌, ◌≤◌, ◌↔◌, min, Bool, false, not, List, [], ◌∷◌};
+ghost use Rattle.std.specs.Prelude.{◌≡◌, ◌≢◌, ℕ, ◌+◌, ◌<◌, ◌≤◌, ◌↔◌, min, Bool, false, not, ◌&&◌, ◌||◌, IsTrue, List, [], ◌∷◌};
 ghost use Rattle.bx_engine.specs.declared.grid.Ratio.{Ratio};
 ghost use Rattle.bx_engine.specs.declared.grid.Limits.{Limits};
-ghost use Rattle.bx_engine.specs.Networks.{Network, Edge, IsNetwork, IsValuation, IsDown, IsUp};
+ghost use Rattle.bx_engine.specs.declared.forms.Kind.TheVariants.{Input, Output, Not, Fan, And, Or, Nand, Nor, Xor, Xnor};
+ghost use Rattle.bx_engine.specs.Networks.{Network, Edge, IsNetwork, kind_value, IsValuation, IsDown, IsUp};
 ghost use Rattle.bx_engine.specs.BranchingNetworks.{branching_network};
 ghost use Rattle.bx_engine.specs.ChainNetworks.{chain_network, link, input_node, not_node, output_node, inverted};
 ghost use Rattle.bx_engine.specs.Orders.{IsWithin};
@@ -31,6 +32,24 @@ pub fn the_network_of_one_inversion()
     ensures missing { ¬ IsNetwork (record { nodes = (chain_network 1).nodes; edges = link 0 ∷ [] }) }
     ensures turned { ¬ IsNetwork (record { nodes = (chain_network 1).nodes; edges = link 1 ∷ link 0 ∷ [] }) }
     ensures slot { ¬ IsNetwork (record { nodes = (chain_network 1).nodes; edges = link 0 ∷ (record (link 1) { slot = 1 }) ∷ [] }) }
+{}
+
+/// What a node of each kind gives, for the values that it reads by operand 0 and operand 1: an input
+/// its given value, an output or a fan what it reads, and a gate what its name says.
+pub fn what_nodes_give()
+    ensures input { (given : Bool) (reads : List Bool) → kind_value Input given reads ≡ given }
+    ensures one { (given b : Bool) → (kind_value Output given (b ∷ []) ≡ b) × (kind_value Fan given (b ∷ []) ≡ b) × (kind_value Not given (b ∷ []) ≡ not b) }
+    ensures and { (given a b : Bool) → kind_value And given (a ∷ b ∷ []) ≡ (a && b) }
+    ensures or { (given a b : Bool) → kind_value Or given (a ∷ b ∷ []) ≡ (a || b) }
+    ensures nand { (given a b : Bool) → kind_value Nand given (a ∷ b ∷ []) ≡ not (a && b) }
+    ensures nor { (given a b : Bool) → kind_value Nor given (a ∷ b ∷ []) ≡ not (a || b) }
+    ensures xor { (given a b : Bool) → IsTrue (kind_value Xor given (a ∷ b ∷ [])) ↔ (a ≢ b) }
+    ensures xnor { (given a b : Bool) → IsTrue (kind_value Xnor given (a ∷ b ∷ [])) ↔ (a ≡ b) }
+{}
+
+/// Two `not` that feed each other are no mapped network.
+pub fn a_ring_is_no_network()
+    ensures { ¬ IsNetwork (record { nodes = not_node ∷ not_node ∷ []; edges = link 0 ∷ (record (link 1) { target = 0 }) ∷ [] }) }
 {}
 
 /// A network in which a value meets its own inversion in an `and`. Of the two ways to the `and` the

@@ -1,0 +1,21 @@
+use Rattle.std.proofs.Common.{ap, not}
+use Rattle.bx_engine.proofs.Operations.{conjunction_two, disjunction_two, parity_two, not_parity_two}
+use Rattle.bx_engine.proofs.laws.operations.what_operations_give_of_two_values.Goals as goal
+
+pub returns-clause-and : goal.returns-clause-and
+returns-clause-and c = λ a b. conjunction_two a b
+
+pub returns-clause-or : goal.returns-clause-or
+returns-clause-or c = λ a b. disjunction_two a b
+
+pub returns-clause-nand : goal.returns-clause-nand
+returns-clause-nand c = λ a b. ap not (conjunction_two a b)
+
+pub returns-clause-nor : goal.returns-clause-nor
+returns-clause-nor c = λ a b. ap not (disjunction_two a b)
+
+pub returns-clause-xor : goal.returns-clause-xor
+returns-clause-xor c = λ a b. parity_two a b
+
+pub returns-clause-xnor : goal.returns-clause-xnor
+returns-clause-xnor c = λ a b. not_parity_two a b

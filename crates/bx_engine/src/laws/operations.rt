@@ -1,4 +1,4 @@
-//! What an operation gives for one value and for two, which is what the gates of a module are read by.
+//! What an operation gives for one value and for two. Of more values its definition alone speaks.
 //! Nothing here runs.
 ghost use Rattle.std.specs.Prelude.{◌≡◌, ◌≢◌, ◌↔◌, Bool, not, ◌&&◌, ◌||◌, IsTrue, [], ◌∷◌};
 ghost use Rattle.bx_logic.specs.declared.op.Op.TheVariants.{Buf, Not, And, Or, Nand, Nor, Xor, Xnor};

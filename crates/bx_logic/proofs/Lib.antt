@@ -3,3 +3,4 @@ pub mod Valuations
 pub mod Tallies
 pub mod Ways
 pub mod Ascending
+pub mod Cycles

@@ -3,3 +3,4 @@ pub mod Nets
 pub mod Values
 pub mod Known
 pub mod Ascending
+pub mod Cycles

@@ -3,6 +3,7 @@
 #![tactic(auto)]
 
 mod args;
+mod cycle;
 mod driver;
 mod eval;
 mod gate;
@@ -13,6 +14,7 @@ mod net;
 mod op;
 
 pub use args::Args;
+pub use cycle::least_on_cycle;
 pub use driver::Driver;
 pub use memory::NoMemory;
 pub use name::Name;

@@ -1,14 +1,14 @@
 -- Walks over what a net depends on: what is met on the way, and how much is left to do.
 use Rattle.std.proofs.Common.{◌≡◌, ℕ, zero, suc, ◌+◌, ◌<◌, ◌≤◌, Bool, true, false, List, [], ◌∷◌, ◌++◌, length, get_or, set, if◌then◌else◌, ◌⊎◌, inl, inr, refl, sym, ◌∙◌, ap, subst, arith, get_or-set_other, get_or-set_same, replicate}
 use Rattle.std.specs.Prelude.{◌↔◌, IsTrue}
-use Rattle.std.specs.List.{Contains}
+use Rattle.std.specs.List.{All, Contains}
 use Rattle.std.proofs.lemmas.Bool.{cases_eq, cases_lt}
-use Rattle.std.proofs.lemmas.List.Elements.{Contains-append_left, Contains-append_right, Contains-append_cases, Contains-push}
+use Rattle.std.proofs.lemmas.List.Elements.{Contains-append_left, Contains-append_right, Contains-append_cases, Contains-push, All-contains, All-same, All-weaker, All-contains_itself}
 use Rattle.std.proofs.lemmas.List.{length-append, length-set, nil_from_length, length-replicate, get_or-replicate, get_or_default, get_or_past}
 use Rattle.bx_logic.specs.declared.driver.Driver.{Driver}
 use Rattle.bx_logic.specs.declared.driver.Driver.TheVariants.{Constant}
 use Rattle.bx_logic.specs.Nets.{arguments_of, driver_at, Reads, DependsOn, directly, through}
-use Rattle.bx_logic.specs.Cycles.{ReadsNetsOnly}
+use Rattle.bx_logic.specs.Cycles.{ReadsNetsOnly, NeverRises, FallsFrom}
 
 pub depends-later : (drivers : List Driver) (n k m : ℕ) → DependsOn drivers n k → Reads drivers k m → DependsOn drivers n m
 depends-later drivers _ _ m (directly n k r) l = through n k m r (directly k m l)
@@ -181,3 +181,27 @@ walk-answer drivers start seen pending b h none is walk =
       λ t. walk.depends_seen start (e ∙ t),
       λ d. sym e ∙ walk-end drivers start seen done start d,
     )
+
+pub each-read : (P : ℕ → Type 0) (drivers : List Driver) (n : ℕ) (args : List ℕ) → args ≡ arguments_of (driver_at drivers n) → All P args →
+    (m : ℕ) → Reads drivers n m → P m
+each-read P drivers n args e a m r = All-contains P args m a (subst (λ (xs : List ℕ). Contains xs m) (sym e) r)
+
+pub reads-each : (drivers : List Driver) → ReadsNetsOnly drivers → (n : ℕ) (args : List ℕ) → args ≡ arguments_of (driver_at drivers n) →
+    All (λ m. m < length drivers) args
+reads-each drivers within n args e =
+    All-same (λ m. m < length drivers) args (arguments_of (driver_at drivers n)) e
+    (All-weaker (Contains (arguments_of (driver_at drivers n))) (λ m. m < length drivers) (λ m r. within n m r)
+    (arguments_of (driver_at drivers n)) (All-contains_itself (arguments_of (driver_at drivers n))))
+
+never-above : (drivers : List Driver) (ranks : List ℕ) → NeverRises drivers ranks → (n m : ℕ) → DependsOn drivers n m → get_or ranks m 0 ≤ get_or ranks n 0
+never-above drivers ranks never _ _ (directly n m r) = never n m r
+never-above drivers ranks never _ _ (through n k m r d) = let a = never n k r in let b = never-above drivers ranks never k m d in omega (arith, a, b)
+
+below : (drivers : List Driver) (ranks : List ℕ) → NeverRises drivers ranks → (n m : ℕ) → FallsFrom drivers ranks n → DependsOn drivers n m →
+    get_or ranks m 0 < get_or ranks n 0
+below drivers ranks never _ _ falls (directly n m r) = falls m r
+below drivers ranks never _ _ falls (through n k m r d) = let a = falls k r in let b = never-above drivers ranks never k m d in omega (arith, a, b)
+
+-- where no rank rises, a net that reads smaller ranks alone does not depend on itself
+pub falls-acyclic : (drivers : List Driver) (ranks : List ℕ) → NeverRises drivers ranks → (n : ℕ) → FallsFrom drivers ranks n → DependsOn drivers n n → ⊥
+falls-acyclic drivers ranks never n falls d = let h = below drivers ranks never n n falls d in omega (arith, h)

@@ -4,3 +4,4 @@ pub mod Tallies
 pub mod Ways
 pub mod Ascending
 pub mod Cycles
+pub mod ComponentSteps

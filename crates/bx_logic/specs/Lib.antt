@@ -4,3 +4,4 @@ pub mod Values
 pub mod Known
 pub mod Ascending
 pub mod Cycles
+pub mod Components

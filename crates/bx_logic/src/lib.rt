@@ -3,6 +3,7 @@
 #![tactic(auto)]
 
 mod args;
+mod components;
 mod cycle;
 mod driver;
 mod eval;

@@ -205,3 +205,7 @@ below drivers ranks never _ _ falls (through n k m r d) = let a = falls k r in l
 -- where no rank rises, a net that reads smaller ranks alone does not depend on itself
 pub falls-acyclic : (drivers : List Driver) (ranks : List ℕ) → NeverRises drivers ranks → (n : ℕ) → FallsFrom drivers ranks n → DependsOn drivers n n → ⊥
 falls-acyclic drivers ranks never n falls d = let h = below drivers ranks never n n falls d in omega (arith, h)
+
+pub item-arguments : (drivers : List Driver) (n : ℕ) (d : Driver) (args : List ℕ) → n < length drivers → d ≡ get_or drivers n d → args ≡ arguments_of d →
+    args ≡ arguments_of (driver_at drivers n)
+item-arguments drivers n d args h is_d is_args = is_args ∙ ap arguments_of (is_d ∙ get_or_default drivers n d (Constant false) h)

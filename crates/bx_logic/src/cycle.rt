@@ -107,3 +107,112 @@ pub fn least_on_cycle(alloc: Global, drivers: &[Driver]) -> Result<Option<u32>, 
     }
     Ok(None)
 }
+
+#[cfg(test)]
+mod tests {
+    use super::*;
+    use crate::{Args, Op};
+    use std::process::Abort;
+    use std::test::Fail;
+
+    /// A gate that reads these nets, or a constant where there are none.
+    fn driver(alloc: Global, arguments: &[u32]) -> Result<Driver, NoMemory> {
+        if arguments.is_empty() {
+            return Ok(Driver::Constant(false));
+        }
+        Ok(Driver::Gate(Op::And, Args::new(arguments.to_vec(alloc)?)))
+    }
+
+    /// Nets that read these.
+    fn nets(alloc: Global, rows: &[&[u32]]) -> Result<Vec<Driver>, NoMemory> {
+        let mut drivers = Vec::new(alloc);
+        for row in rows {
+            drivers.push(driver(alloc, *row)?)?;
+        }
+        Ok(drivers)
+    }
+
+    /// So many nets of which each reads the next one, and the last reads this one, if any.
+    fn chain(alloc: Global, count: u32, last: &[u32]) -> Result<Vec<Driver>, NoMemory> {
+        let mut drivers = Vec::new(alloc);
+        for next in 1..count {
+            drivers.push(driver(alloc, &[next])?)?;
+        }
+        drivers.push(driver(alloc, last)?)?;
+        Ok(drivers)
+    }
+
+    fn all_less(numbers: &[u32], bound: usize) -> bool
+        ensures { IsTrue result → All (λ m. m < bound) numbers.now }
+    {
+        numbers.iter().all(|number| (*number as usize) < bound)
+    }
+
+    fn reads_nets_only(drivers: &[Driver]) -> bool
+        ensures { IsTrue result → ReadsNetsOnly drivers.now }
+    {
+        for driver in drivers {
+            if !all_less(driver.arguments(), drivers.len()) {
+                return false;
+            }
+        }
+        true
+    }
+
+    /// This is the answer, and the ranks lead to it with no walk from any net before it.
+    fn expect_least(
+        rt: &impl Abort,
+        alloc: Global,
+        drivers: &[Driver],
+        answer: Option<u32>,
+    ) -> Result<(), Fail> {
+        assert!(rt; drivers.len() < 4294967296);
+        assert!(rt; reads_nets_only(drivers));
+        assert_eq!(rt; least_on_cycle(alloc, drivers)?, answer);
+        let ranks = component_ranks(alloc, drivers)?;
+        let nets = drivers.len() as u32;
+        assert_eq!(rt; ranked_until(drivers, &ranks), answer.unwrap_or(nets));
+        Ok(())
+    }
+
+    #[test]
+    fn the_answer_is_on_a_cycle_and_least(rt: HostRuntime) -> Result<(), Fail> {
+        let cases: [(&[&[u32]], Option<u32>); 9] = [
+            (&[], None),
+            (&[&[1, 2], &[2], &[]], None),
+            (&[&[], &[1]], Some(1)),
+            (&[&[], &[2], &[1], &[0, 1]], Some(1)),
+            (&[&[3, 1], &[2], &[1], &[]], Some(1)),
+            (&[&[3], &[2, 0], &[1], &[4], &[3]], Some(1)),
+            (&[&[1], &[], &[5], &[4], &[3], &[2]], Some(2)),
+            (&[&[1], &[2, 4], &[3], &[1], &[0]], Some(0)),
+            (&[&[6], &[2], &[3, 5], &[4], &[2, 6], &[1], &[]], Some(1)),
+        ];
+        for (rows, answer) in cases {
+            let drivers = nets(rt.alloc(), rows)?;
+            expect_least(&rt, rt.alloc(), &drivers, answer)?;
+        }
+        Ok(())
+    }
+
+    #[test]
+    fn long_chains_and_wide_gates_are_fast(rt: HostRuntime) -> Result<(), Fail> {
+        let cases: [(u32, &[u32], Option<u32>); 4] = [
+            (1_000, &[0], Some(0)),
+            (250_000, &[], None),
+            (250_000, &[0], Some(0)),
+            (250_000, &[249_999], Some(249_999)),
+        ];
+        for (count, last, answer) in cases {
+            let drivers = chain(rt.alloc(), count, last)?;
+            expect_least(&rt, rt.alloc(), &drivers, answer)?;
+        }
+        let mut wide = Vec::new(rt.alloc());
+        for argument in 0..520_000 {
+            wide.push(1 + argument % 1_000)?;
+        }
+        let mut drivers = chain(rt.alloc(), 1_001, &[])?;
+        drivers.push(driver(rt.alloc(), &wide)?)?;
+        expect_least(&rt, rt.alloc(), &drivers, None)
+    }
+}

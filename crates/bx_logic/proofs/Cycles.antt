@@ -186,12 +186,10 @@ pub each-read : (P : ℕ → Type 0) (drivers : List Driver) (n : ℕ) (args : L
     (m : ℕ) → Reads drivers n m → P m
 each-read P drivers n args e a m r = All-contains P args m a (subst (λ (xs : List ℕ). Contains xs m) (sym e) r)
 
-pub reads-each : (drivers : List Driver) → ReadsNetsOnly drivers → (n : ℕ) (args : List ℕ) → args ≡ arguments_of (driver_at drivers n) →
-    All (λ m. m < length drivers) args
-reads-each drivers within n args e =
-    All-same (λ m. m < length drivers) args (arguments_of (driver_at drivers n)) e
-    (All-weaker (Contains (arguments_of (driver_at drivers n))) (λ m. m < length drivers) (λ m r. within n m r)
-    (arguments_of (driver_at drivers n)) (All-contains_itself (arguments_of (driver_at drivers n))))
+pub all-read : (P : ℕ → Type 0) (drivers : List Driver) (n : ℕ) (args : List ℕ) → args ≡ arguments_of (driver_at drivers n) →
+    ((m : ℕ) → Reads drivers n m → P m) → All P args
+all-read P drivers n args e h =
+    let reads = arguments_of (driver_at drivers n) in All-same P args reads e (All-weaker (Contains reads) P h reads (All-contains_itself reads))
 
 never-above : (drivers : List Driver) (ranks : List ℕ) → NeverRises drivers ranks → (n m : ℕ) → DependsOn drivers n m → get_or ranks m 0 ≤ get_or ranks n 0
 never-above drivers ranks never _ _ (directly n m r) = never n m r

@@ -14,7 +14,7 @@ use std::alloc::Global;
 /// Whether each of these nets has at most this rank.
 fn all_at_most(ranks: &[u32], nets: &[u32], rank: u32) -> bool
     requires { All (λ m. m < length ranks.now) nets.now }
-    ensures { IsTrue result → All (λ m. slice_index ranks.now m ≤ rank) nets.now }
+    ensures { IsTrue result ↔ All (λ m. slice_index ranks.now m ≤ rank) nets.now }
 {
     nets.iter().all(|net| ranks[*net as usize] <= rank)
 }
@@ -22,7 +22,7 @@ fn all_at_most(ranks: &[u32], nets: &[u32], rank: u32) -> bool
 /// Whether each of these nets has a smaller rank.
 fn all_below(ranks: &[u32], nets: &[u32], rank: u32) -> bool
     requires { All (λ m. m < length ranks.now) nets.now }
-    ensures { IsTrue result → All (λ m. slice_index ranks.now m < rank) nets.now }
+    ensures { IsTrue result ↔ All (λ m. slice_index ranks.now m < rank) nets.now }
 {
     nets.iter().all(|net| ranks[*net as usize] < rank)
 }
@@ -32,7 +32,7 @@ fn never_rises(drivers: &[Driver], ranks: &[u32]) -> bool
     requires few { length drivers.now < 4294967296 }
     requires reads { ReadsNetsOnly drivers.now }
     requires ranks { length ranks.now ≡ length drivers.now }
-    ensures { IsTrue result → NeverRises drivers.now ranks.now }
+    ensures { IsTrue result ↔ NeverRises drivers.now ranks.now }
 {
     for net in 0..drivers.len() as u32 {
         if !all_at_most(ranks, arguments_at(drivers, net), ranks[net as usize]) {
@@ -49,6 +49,7 @@ fn first_level(drivers: &[Driver], ranks: &[u32]) -> u32
     requires ranks { length ranks.now ≡ length drivers.now }
     ensures within { result ≤ length drivers.now }
     ensures falls { (n : ℕ) → n < result → FallsFrom drivers.now ranks.now n }
+    ensures level { result < length drivers.now → FallsFrom drivers.now ranks.now result → ⊥ }
 {
     let nets = drivers.len() as u32;
     for net in 0..nets {
@@ -67,6 +68,7 @@ fn ranked_until(drivers: &[Driver], ranks: &[u32]) -> u32
     requires ranks { length ranks.now ≡ length drivers.now }
     ensures within { result ≤ length drivers.now }
     ensures acyclic { (n : ℕ) → n < result → DependsOn drivers.now n n → ⊥ }
+    ensures level { NeverRises drivers.now ranks.now → result < length drivers.now → FallsFrom drivers.now ranks.now result → ⊥ }
 {
     if never_rises(drivers, ranks) {
         first_level(drivers, ranks)

@@ -3,3 +3,5 @@ pub mod Valuations
 pub mod Tallies
 pub mod Ways
 pub mod Ascending
+pub mod Cycles
+pub mod ComponentSteps

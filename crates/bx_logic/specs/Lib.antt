@@ -3,3 +3,5 @@ pub mod Nets
 pub mod Values
 pub mod Known
 pub mod Ascending
+pub mod Cycles
+pub mod Components

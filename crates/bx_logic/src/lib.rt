@@ -4,6 +4,8 @@
 #![tactic(auto)]
 
 mod args;
+mod components;
+mod cycle;
 mod driver;
 mod eval;
 mod gate;
@@ -14,6 +16,7 @@ mod net;
 mod op;
 
 pub use args::Args;
+pub use cycle::least_on_cycle;
 pub use driver::Driver;
 pub use memory::NoMemory;
 pub use name::Name;

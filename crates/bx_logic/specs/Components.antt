@@ -1,0 +1,19 @@
+-- The search for components: which nets its parts may name.
+use Rattle.std.specs.Prelude.{◌≡◌, ℕ, ◌<◌, List, length, All}
+use Rattle.bx_logic.specs.declared.components.Step.{Step}
+use Rattle.bx_logic.specs.declared.components.Step.TheVariants.{Enter, Leave}
+use Rattle.bx_logic.specs.declared.components.Components.{Components}
+
+abbrev pub net_of : Step → ℕ
+net_of (Enter n) = n
+net_of (Leave n) = n
+
+-- the steps are of nets among so many
+abbrev pub AreSteps : ℕ → List Step → Type 0
+AreSteps nets steps = All (λ step. net_of step < nets) steps
+
+-- there is a place and a rank for each net, and the open nets are among them
+pub record AreComponents (nets : ℕ) (components : Components) : Type 0 where
+  pub places : length components.places.items ≡ nets
+  pub ranks : length components.ranks.items ≡ nets
+  pub open_nets : All (λ n. n < nets) components.open.items

@@ -1,0 +1,220 @@
+//! The least-numbered net that depends on itself. One that only reads such a net, or lies between two
+//! cycles, is none. The ranks of the components show up to which net there is none, in time linear in
+//! nets and arguments, and a walk from that net finds a way back to it. The clauses rest on the check
+//! of the ranks and on the walk: were the ranks wrong, more nets would be walked from, and the answer
+//! be the same.
+ghost use Rattle.std.specs.Prelude.{◌≡◌, ℕ, ◌<◌, ◌≤◌, ◌↔◌, All, length, slice_index, IfOk, IsTrue, MatchOption};
+ghost use Rattle.bx_logic.specs.Nets.{DependsOn, IsAcyclic};
+ghost use Rattle.bx_logic.specs.Cycles.{ReadsNetsOnly, IsLeastOnCycle, NeverRises, FallsFrom};
+
+use crate::components::{arguments_at, component_ranks};
+use crate::{Driver, NoMemory};
+use std::alloc::Global;
+
+/// Whether each of these nets has at most this rank.
+fn all_at_most(ranks: &[u32], nets: &[u32], rank: u32) -> bool
+    requires { All (λ m. m < length ranks.now) nets.now }
+    ensures { IsTrue result ↔ All (λ m. slice_index ranks.now m ≤ rank) nets.now }
+{
+    nets.iter().all(|net| ranks[*net as usize] <= rank)
+}
+
+/// Whether each of these nets has a smaller rank.
+fn all_below(ranks: &[u32], nets: &[u32], rank: u32) -> bool
+    requires { All (λ m. m < length ranks.now) nets.now }
+    ensures { IsTrue result ↔ All (λ m. slice_index ranks.now m < rank) nets.now }
+{
+    nets.iter().all(|net| ranks[*net as usize] < rank)
+}
+
+/// Whether no net reads one of a greater rank.
+fn never_rises(drivers: &[Driver], ranks: &[u32]) -> bool
+    requires few { length drivers.now < 4294967296 }
+    requires reads { ReadsNetsOnly drivers.now }
+    requires ranks { length ranks.now ≡ length drivers.now }
+    ensures { IsTrue result ↔ NeverRises drivers.now ranks.now }
+{
+    for net in 0..drivers.len() as u32 {
+        if !all_at_most(ranks, arguments_at(drivers, net), ranks[net as usize]) {
+            return false;
+        }
+    }
+    true
+}
+
+/// The first net that reads one of no smaller rank, or the number of nets.
+fn first_level(drivers: &[Driver], ranks: &[u32]) -> u32
+    requires few { length drivers.now < 4294967296 }
+    requires reads { ReadsNetsOnly drivers.now }
+    requires ranks { length ranks.now ≡ length drivers.now }
+    ensures within { result ≤ length drivers.now }
+    ensures falls { (n : ℕ) → n < result → FallsFrom drivers.now ranks.now n }
+    ensures level { result < length drivers.now → FallsFrom drivers.now ranks.now result → ⊥ }
+{
+    let nets = drivers.len() as u32;
+    for net in 0..nets {
+        if !all_below(ranks, arguments_at(drivers, net), ranks[net as usize]) {
+            return net;
+        }
+    }
+    nets
+}
+
+/// A net up to which none depends on itself, as the ranks show: where none rises, a path never rises,
+/// and so none leads back to a net whose first steps all fall.
+fn ranked_until(drivers: &[Driver], ranks: &[u32]) -> u32
+    requires few { length drivers.now < 4294967296 }
+    requires reads { ReadsNetsOnly drivers.now }
+    requires ranks { length ranks.now ≡ length drivers.now }
+    ensures within { result ≤ length drivers.now }
+    ensures acyclic { (n : ℕ) → n < result → DependsOn drivers.now n n → ⊥ }
+    ensures level { NeverRises drivers.now ranks.now → result < length drivers.now → FallsFrom drivers.now ranks.now result → ⊥ }
+{
+    if never_rises(drivers, ranks) {
+        first_level(drivers, ranks)
+    } else {
+        0
+    }
+}
+
+/// Whether a net depends on itself: each net that it depends on is visited once.
+fn is_on_cycle(alloc: Global, drivers: &[Driver], start: u32) -> Result<bool, NoMemory>
+    requires reads { ReadsNetsOnly drivers.now }
+    requires start { start < length drivers.now }
+    ensures { IfOk result (λ found. IsTrue found ↔ DependsOn drivers.now start start) }
+{
+    let mut seen = vec![in alloc; false; drivers.len()]?;
+    let mut pending = arguments_at(drivers, start).to_vec(alloc)?;
+    while let Some(net) = pending.pop() {
+        if seen[net as usize] {
+            continue;
+        }
+        seen[net as usize] = true;
+        pending.extend_from_slice(arguments_at(drivers, net))?;
+    }
+    Ok(seen[start as usize])
+}
+
+/// The least-numbered net that depends on itself, if one does.
+pub fn least_on_cycle(alloc: Global, drivers: &[Driver]) -> Result<Option<u32>, NoMemory>
+    requires few { length drivers.now < 4294967296 }
+    requires reads { ReadsNetsOnly drivers.now }
+    ensures { IfOk result (λ found. MatchOption found (IsAcyclic drivers.now) (λ net. IsLeastOnCycle drivers.now net)) }
+{
+    let ranks = component_ranks(alloc, drivers)?;
+    for net in ranked_until(drivers, &ranks)..drivers.len() as u32 {
+        if is_on_cycle(alloc, drivers, net)? {
+            return Ok(Some(net));
+        }
+    }
+    Ok(None)
+}
+
+#[cfg(test)]
+mod tests {
+    use super::*;
+    use crate::{Args, Op};
+    use std::process::Abort;
+    use std::test::Fail;
+
+    /// A gate that reads these nets, or a constant where there are none.
+    fn driver(alloc: Global, arguments: &[u32]) -> Result<Driver, NoMemory> {
+        if arguments.is_empty() {
+            return Ok(Driver::Constant(false));
+        }
+        Ok(Driver::Gate(Op::And, Args::new(arguments.to_vec(alloc)?)))
+    }
+
+    /// Nets that read these.
+    fn nets(alloc: Global, rows: &[&[u32]]) -> Result<Vec<Driver>, NoMemory> {
+        let mut drivers = Vec::new(alloc);
+        for row in rows {
+            drivers.push(driver(alloc, *row)?)?;
+        }
+        Ok(drivers)
+    }
+
+    /// So many nets of which each reads the next one, and the last reads this one, if any.
+    fn chain(alloc: Global, count: u32, last: &[u32]) -> Result<Vec<Driver>, NoMemory> {
+        let mut drivers = Vec::new(alloc);
+        for next in 1..count {
+            drivers.push(driver(alloc, &[next])?)?;
+        }
+        drivers.push(driver(alloc, last)?)?;
+        Ok(drivers)
+    }
+
+    fn all_less(numbers: &[u32], bound: usize) -> bool
+        ensures { IsTrue result → All (λ m. m < bound) numbers.now }
+    {
+        numbers.iter().all(|number| (*number as usize) < bound)
+    }
+
+    fn reads_nets_only(drivers: &[Driver]) -> bool
+        ensures { IsTrue result → ReadsNetsOnly drivers.now }
+    {
+        for driver in drivers {
+            if !all_less(driver.arguments(), drivers.len()) {
+                return false;
+            }
+        }
+        true
+    }
+
+    /// This is the answer, and the ranks lead to it with no walk from any net before it.
+    fn expect_least(
+        rt: &impl Abort,
+        alloc: Global,
+        drivers: &[Driver],
+        answer: Option<u32>,
+    ) -> Result<(), Fail> {
+        assert!(rt; drivers.len() < 4294967296);
+        assert!(rt; reads_nets_only(drivers));
+        assert_eq!(rt; least_on_cycle(alloc, drivers)?, answer);
+        let ranks = component_ranks(alloc, drivers)?;
+        let nets = drivers.len() as u32;
+        assert_eq!(rt; ranked_until(drivers, &ranks), answer.unwrap_or(nets));
+        Ok(())
+    }
+
+    #[test]
+    fn the_answer_is_on_a_cycle_and_least(rt: HostRuntime) -> Result<(), Fail> {
+        let cases: [(&[&[u32]], Option<u32>); 9] = [
+            (&[], None),
+            (&[&[1, 2], &[2], &[]], None),
+            (&[&[], &[1]], Some(1)),
+            (&[&[], &[2], &[1], &[0, 1]], Some(1)),
+            (&[&[3, 1], &[2], &[1], &[]], Some(1)),
+            (&[&[3], &[2, 0], &[1], &[4], &[3]], Some(1)),
+            (&[&[1], &[], &[5], &[4], &[3], &[2]], Some(2)),
+            (&[&[1], &[2, 4], &[3], &[1], &[0]], Some(0)),
+            (&[&[6], &[2], &[3, 5], &[4], &[2, 6], &[1], &[]], Some(1)),
+        ];
+        for (rows, answer) in cases {
+            let drivers = nets(rt.alloc(), rows)?;
+            expect_least(&rt, rt.alloc(), &drivers, answer)?;
+        }
+        Ok(())
+    }
+
+    #[test]
+    fn long_chains_and_wide_gates_are_fast(rt: HostRuntime) -> Result<(), Fail> {
+        let cases: [(u32, &[u32], Option<u32>); 4] = [
+            (1_000, &[0], Some(0)),
+            (250_000, &[], None),
+            (250_000, &[0], Some(0)),
+            (250_000, &[249_999], Some(249_999)),
+        ];
+        for (count, last, answer) in cases {
+            let drivers = chain(rt.alloc(), count, last)?;
+            expect_least(&rt, rt.alloc(), &drivers, answer)?;
+        }
+        let mut wide = Vec::new(rt.alloc());
+        for argument in 0..520_000 {
+            wide.push(1 + argument % 1_000)?;
+        }
+        let mut drivers = chain(rt.alloc(), 1_001, &[])?;
+        drivers.push(driver(rt.alloc(), &wide)?)?;
+        expect_least(&rt, rt.alloc(), &drivers, None)
+    }
+}

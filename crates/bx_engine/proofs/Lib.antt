@@ -8,7 +8,6 @@ pub mod Ascending
 pub mod BranchingNetworks
 pub mod ChainNetworks
 pub mod Networks
-pub mod Operations
 pub mod Orders
 pub mod Saying
 pub mod Joined

@@ -1,6 +1,6 @@
 -- What a form means: the sides that it uses, the kind of node that it holds, and what it computes,
 -- as the one table has it. A tile holds a form, as its number, or is empty.
-use Rattle.std.specs.Prelude.{ℕ, Bool, false, not, List, [], ◌∷◌, Option, Some, None, map}
+use Rattle.std.specs.Prelude.{ℕ, ◌+◌, Bool, false, not, if◌then◌else◌, List, [], ◌∷◌, Option, Some, None, map}
 use Rattle.std.specs.List.{slice_get}
 use Rattle.bx_logic.specs.Op.{conjunction, disjunction, parity, first_value}
 use Rattle.bx_engine.specs.declared.forms.Kind.{Kind}
@@ -22,6 +22,9 @@ shape_of form = slice_get (map (λ line. line.1) FORMS) form
 abbrev pub is_used : Sides → Side → Bool
 is_used sides Left = sides.left
 is_used sides Right = sides.right
+
+abbrev pub side_count : Sides → ℕ
+side_count sides = (if sides.left then 1 else 0) + (if sides.right then 1 else 0)
 
 abbrev pub opposite : Side → Side
 opposite Left = Right

@@ -4,5 +4,4 @@ pub mod answers;
 pub mod forms;
 pub mod grids;
 pub mod networks;
-pub mod operations;
 pub mod orders;

@@ -5,3 +5,4 @@ pub mod Ways
 pub mod Ascending
 pub mod Cycles
 pub mod ComponentSteps
+pub mod Operations

@@ -4,6 +4,7 @@ ghost use Rattle.std.specs.declared.alloc.Global.{Global};
 ghost use Rattle.bx_desk.specs.Desk.{Files};
 ghost use Rattle.bx_verilog.specs.Module.{Text};
 ghost use Rattle.bx_engine.specs.declared.status.Status.{Status};
+ghost use Rattle.bx_engine.specs.Statuses.{IsSettled};
 ghost use Rattle.bx_engine.specs.Runs.{net_word, net_text, IsAnswer};
 
 /// Words that name no file have one answer, and so have words and the text of the file that they name.
@@ -12,4 +13,9 @@ pub fn an_input_has_one_answer()
         → IsAnswer words told s x → IsAnswer words told t y → (s ≡ t) × (x ≡ y) }
     ensures text { (words : List (String Global)) (told : Option Files) (s t : Status) (x y text : Text) → net_text words told ≡ Some text
         → IsAnswer words told s x → IsAnswer words told t y → (s ≡ t) × (x ≡ y) }
+{}
+
+/// No answer is want of memory or a fault of reading or writing.
+pub fn an_answer_is_settled()
+    ensures { (words : List (String Global)) (told : Option Files) (s : Status) (x : Text) → IsAnswer words told s x → IsSettled s }
 {}

@@ -1,10 +1,13 @@
 //! What a form gives, line by line, for all values that come in. That the table has the function that a
 //! form's name says is a law of the grids; here stands what each function is. Nothing here runs.
-ghost use Rattle.std.specs.Prelude.{◌≡◌, ◌≢◌, ◌↔◌, Bool, not, ◌&&◌, ◌||◌, IsTrue, List, [], ◌∷◌};
+ghost use Rattle.std.specs.Prelude.{◌≡◌, ◌≢◌, ◌↔◌, Bool, not, ◌&&◌, ◌||◌, IsTrue, List, [], ◌∷◌, IfSome};
+ghost use Rattle.std.specs.List.{AllByRecursion};
 ghost use Rattle.bx_engine.specs.declared.forms.Side.{Side};
 ghost use Rattle.bx_engine.specs.declared.forms.Side.TheVariants.{Left, Right};
 ghost use Rattle.bx_engine.specs.declared.forms.Function.TheVariants.{Given, Same, Negation, And, Or, Nand, Nor, Xor, Xnor, Double, Cross};
-ghost use Rattle.bx_engine.specs.Forms.{function_value};
+ghost use Rattle.bx_engine.specs.declared.forms.TheConstants.{FORMS};
+ghost use Rattle.bx_engine.specs.Forms.{function_value, side_count};
+ghost use Rattle.bx_engine.specs.Networks.{operands, slots};
 
 /// An input gives its given value on either side; a wire or a fan the value that comes in, and a `not`
 /// its inverse.
@@ -29,4 +32,10 @@ pub fn what_gates_give()
 pub fn what_double_and_cross_give()
     ensures double { (given l r : Bool) → (function_value Double given (l ∷ r ∷ []) Left ≡ l) × (function_value Double given (l ∷ r ∷ []) Right ≡ r) }
     ensures cross { (given l r : Bool) → (function_value Cross given (l ∷ r ∷ []) Left ≡ r) × (function_value Cross given (l ∷ r ∷ []) Right ≡ l) }
+{}
+
+/// A form that holds a node has an upper side for each edge that enters a node of this kind, and a
+/// lower side for each that leaves it.
+pub fn a_form_has_a_side_for_each_edge_of_its_node()
+    ensures { AllByRecursion (λ line. IfSome line.1.node (λ kind. (side_count line.1.upper ≡ operands kind) × (side_count line.1.lower ≡ slots kind))) FORMS }
 {}

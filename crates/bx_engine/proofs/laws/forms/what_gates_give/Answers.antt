@@ -1,5 +1,5 @@
 use Rattle.std.proofs.Common.{ap, not}
-use Rattle.bx_engine.proofs.Operations.{conjunction_two, disjunction_two, parity_two, not_parity_two}
+use Rattle.bx_logic.proofs.Operations.{conjunction_two, disjunction_two, parity_two, not_parity_two}
 use Rattle.bx_engine.proofs.laws.forms.what_gates_give.Goals as goal
 
 pub returns-clause-and : goal.returns-clause-and

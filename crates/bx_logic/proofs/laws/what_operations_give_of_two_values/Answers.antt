@@ -1,6 +1,6 @@
 use Rattle.std.proofs.Common.{ap, not}
-use Rattle.bx_engine.proofs.Operations.{conjunction_two, disjunction_two, parity_two, not_parity_two}
-use Rattle.bx_engine.proofs.laws.operations.what_operations_give_of_two_values.Goals as goal
+use Rattle.bx_logic.proofs.Operations.{conjunction_two, disjunction_two, parity_two, not_parity_two}
+use Rattle.bx_logic.proofs.laws.what_operations_give_of_two_values.Goals as goal
 
 pub returns-clause-and : goal.returns-clause-and
 returns-clause-and c = λ a b. conjunction_two a b

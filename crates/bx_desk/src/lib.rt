@@ -4,6 +4,7 @@
 
 mod desk;
 mod gate;
+pub mod laws;
 mod memory;
 mod piece;
 mod standard;

@@ -1,4 +1,4 @@
--- Refutations of a ratio by counting, which hold whatever the forms of the tiles.
+-- The counting inequality: a longest path has more nodes than a ratio has rows.
 use Rattle.std.specs.Prelude.{ℕ, ◌+◌, ◌<◌, ◌≤◌, List, length}
 use Rattle.std.specs.List.{AllByRecursion}
 use Rattle.bx_engine.specs.declared.grid.Ratio.{Ratio}
@@ -15,7 +15,7 @@ pub record Late (N : Network) (ratio : Ratio) (v : ℕ) : Type 0 where
   pub is_up : IsUp N v up
   pub late : ratio.h ≤ down + up
 
--- each ratio before this one in the order is refuted by some node
+-- on each ratio before this one in the order some node is late
 pub record EachEarlierIsLate (limits : Limits) (N : Network) (ratio : Ratio) : Type 0 where
   pub before : List Ratio
   pub earlier : Earlier limits ratio before

@@ -40,6 +40,13 @@ averted = three_rows input_r not_ll output_l
 abbrev pub cut_short : ℕ → FormGrid
 cut_short k = record { ratio = record { w = 1; h = k + 1 }; tiles = take (k + 1) (column_tiles k) }
 
+-- an empty row above an input and an output
+abbrev pub lowered : FormGrid
+lowered = record {
+  ratio = record { w = 1; h = 3 };
+  tiles = None ∷ Some input_l ∷ Some output_r ∷ [];
+}
+
 -- the module of one `not`
 abbrev pub negation : Text → Text → Module
 negation input output = record {

@@ -65,7 +65,7 @@ pub fn run<T: Threads + Sync, D: Desk, G: Gate + Sync>(
     ensures found_said { (ratio : Sides) → result ≡ Status.Found ratio → (c : Written) → IsChain c
         → net_text words.now (D.files desk.old) ≡ Some (spelling c) → Adds (D.said desk.old) (D.said desk.new) (report_of c) }
 
-    // What the report prints is a sound layout that computes the module, and each earlier ratio is refuted.
+    // What the report prints is a sound layout that computes the module, and on each earlier ratio some node is late.
     ensures layout { (ratio : Sides) → result ≡ Status.Found ratio → (c : Written) → IsChain c
         → net_text words.now (D.files desk.old) ≡ Some (spelling c) → IsLayout c.name (module_of c) (network_of c) ratio (report_of c) }
 

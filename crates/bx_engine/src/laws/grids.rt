@@ -11,7 +11,7 @@ ghost use Rattle.bx_engine.specs.Tiles.{tile_count, y_of, zone_of, below, above}
 ghost use Rattle.bx_engine.specs.FormTable.{IsFormTable};
 ghost use Rattle.bx_engine.specs.Grids.{FormGrid, IsFormGrid, IsSound, LosesNothing, reads, IsBorderValuation, IsOnlyBorderValuation, Pins, pin_names, AreDifferent, IsUsed, ArePins, Computes};
 ghost use Rattle.bx_engine.specs.Columns.{column, column_pins, input_r, output_l, output_r, not_ll, not_rr};
-ghost use Rattle.bx_engine.specs.Examples.{conjoined, conjoined_with, conjoined_borders, conjoined_pins, conjunction_of, double, cross, two_lines, AreRead, wired, averted, cut_short, negation, three_row_pins, exchanged_pins};
+ghost use Rattle.bx_engine.specs.Examples.{conjoined, conjoined_with, conjoined_borders, conjoined_pins, conjunction_of, double, cross, two_lines, AreRead, wired, averted, cut_short, lowered, negation, three_row_pins, exchanged_pins};
 
 /// The tile below on a side and the tile above on the opposite side undo each other.
 pub fn the_tiles_above_and_below_agree()
@@ -114,6 +114,11 @@ pub fn an_averted_output_is_not_sound()
 /// A column that lacks its last row isn't sound.
 pub fn a_column_cut_short_is_not_sound()
     ensures { (k : ℕ) → IsSound (cut_short k) → ⊥ }
+{}
+
+/// An input below an empty row isn't sound.
+pub fn an_input_below_an_empty_row_is_not_sound()
+    ensures { IsSound lowered → ⊥ }
 {}
 
 /// The pins of a column can't be exchanged.

@@ -25,12 +25,14 @@ pub fn a_chain_has_a_network()
 {}
 
 /// The network of one `not` has three nodes and two edges. Without the second edge, with both in the
-/// other order, or with the second by a slot that `not` doesn't have, it is no mapped network.
+/// other order, with both to the output, or with the second by a slot that `not` doesn't have, it is no
+/// mapped network.
 pub fn the_network_of_one_inversion()
     ensures nodes { (chain_network 1).nodes ≡ input_node ∷ not_node ∷ output_node ∷ [] }
     ensures edges { (chain_network 1).edges ≡ (record { source = 0; slot = 0; target = 1; operand = 0 }) ∷ (record { source = 1; slot = 0; target = 2; operand = 0 }) ∷ [] }
     ensures missing { ¬ IsNetwork (record { nodes = (chain_network 1).nodes; edges = link 0 ∷ [] }) }
     ensures turned { ¬ IsNetwork (record { nodes = (chain_network 1).nodes; edges = link 1 ∷ link 0 ∷ [] }) }
+    ensures passed { ¬ IsNetwork (record { nodes = (chain_network 1).nodes; edges = (record (link 0) { target = 2 }) ∷ link 1 ∷ [] }) }
     ensures slot { ¬ IsNetwork (record { nodes = (chain_network 1).nodes; edges = link 0 ∷ (record (link 1) { slot = 1 }) ∷ [] }) }
 {}
 
@@ -53,7 +55,7 @@ pub fn a_ring_is_no_network()
 {}
 
 /// A network in which a value meets its own inversion in an `and`. Of the two ways to the `and` the
-/// longer one counts; the input refutes four rows, and no node five. Its one valuation ends in false.
+/// longer one counts: the input is late on four rows, and no node on five. Its one valuation ends in false.
 pub fn two_ways_lead_through_the_branching_network()
     ensures network { IsNetwork branching_network }
     ensures down { IsDown branching_network 3 3 }
@@ -69,19 +71,19 @@ pub fn the_network_of_a_chain_inverts()
     ensures { (inversions : ℕ) (given values : ℕ → Bool) → IsValuation (chain_network inversions) given values ↔ ((v : ℕ) → v < inversions + 2 → values v ≡ inverted (min v inversions) (given 0)) }
 {}
 
-/// A node of a chain's network refutes the ratios that have fewer rows than the network has nodes.
+/// A node of a chain's network is late on the ratios that have fewer rows than the network has nodes.
 pub fn a_chain_is_late_where_rows_are_few()
     ensures { (inversions v : ℕ) (ratio : Ratio) → Late (chain_network inversions) ratio v ↔ ((v < inversions + 2) × (ratio.h < inversions + 2)) }
 {}
 
-/// One `not` is refuted on two rows by its input, and on three rows by no node.
+/// On two rows the input of one `not` is late, and on three rows no node is.
 pub fn one_inversion_needs_three_rows()
     ensures two { (width : ℕ) → Late (chain_network 1) (record { w = width; h = 2 }) 0 }
     ensures three { (width v : ℕ) → ¬ Late (chain_network 1) (record { w = width; h = 3 }) v }
 {}
 
-/// A column of one row for each node of a chain's network comes first of what counting leaves: it
-/// refutes each ratio before. Within the default limits there is room for 94 inversions.
+/// A column of one row for each node of a chain's network comes first of what counting leaves: on
+/// each ratio before some node is late. Within the default limits there is room for 94 inversions.
 pub fn the_first_fit_of_a_chain_is_a_column()
     ensures within { (limits : Limits) (inversions : ℕ) → IsWithin limits (record { w = 1; h = inversions + 2 }) → EachEarlierIsLate limits (chain_network inversions) (record { w = 1; h = inversions + 2 }) }
     ensures by_default { (inversions : ℕ) → inversions ≤ 94 → EachEarlierIsLate DEFAULT_LIMITS (chain_network inversions) (record { w = 1; h = inversions + 2 }) }

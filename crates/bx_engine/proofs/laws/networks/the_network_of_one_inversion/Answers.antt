@@ -16,5 +16,8 @@ returns-clause-missing c = λ h. let e : ◌≡◌ {A = ℕ} 0 1 = h.leaves 1 No
 pub returns-clause-turned : goal.returns-clause-turned
 returns-clause-turned c = λ h. elim (h.ascending 0 1 (link 0) (omega arith) (omega arith)) [ inl a ↦ omega arith | inr b ↦ (let e = b.0 in omega arith) ]
 
+pub returns-clause-passed : goal.returns-clause-passed
+returns-clause-passed c = λ h. let e : ◌≡◌ {A = ℕ} 0 1 = h.enters 1 Not (not_node, refl, refl) 0 in omega arith
+
 pub returns-clause-slot : goal.returns-clause-slot
 returns-clause-slot c = λ h. let e : ◌≡◌ {A = ℕ} 0 1 = h.leaves 1 Not (not_node, refl, refl) 0 in omega arith

@@ -3,7 +3,7 @@
 //! nets and arguments, and a walk from that net finds a way back to it. The clauses rest on the check
 //! of the ranks and on the walk: were the ranks wrong, more nets would be walked from, and the answer
 //! be the same.
-ghost use Rattle.std.specs.Prelude.{◌≡◌, ℕ, ◌<◌, ◌≤◌, ◌↔◌, All, length, slice_index, IfOk, IsTrue, MatchOption};
+ghost use Rattle.std.specs.Prelude.{◌≡◌, ℕ, ◌<◌, ◌≤◌, ◌↔◌, All, length, slice_index, IfOk, IfSome, IsTrue, MatchOption};
 ghost use Rattle.bx_logic.specs.Nets.{DependsOn, IsAcyclic};
 ghost use Rattle.bx_logic.specs.Cycles.{ReadsNetsOnly, IsLeastOnCycle, NeverRises, FallsFrom};
 
@@ -60,8 +60,8 @@ fn first_level(drivers: &[Driver], ranks: &[u32]) -> u32
     nets
 }
 
-/// A net up to which none depends on itself, as the ranks show: where none rises, a path never rises,
-/// and so none leads back to a net whose first steps all fall.
+/// How many nets from the first on the ranks show not to depend on themselves: where no net reads one
+/// of a greater rank, no way leads back to a net that reads smaller ranks alone.
 fn ranked_until(drivers: &[Driver], ranks: &[u32]) -> u32
     requires few { length drivers.now < 4294967296 }
     requires reads { ReadsNetsOnly drivers.now }
@@ -96,10 +96,11 @@ fn is_on_cycle(alloc: Global, drivers: &[Driver], start: u32) -> Result<bool, No
 }
 
 /// The least-numbered net that depends on itself, if one does.
-pub fn least_on_cycle(alloc: Global, drivers: &[Driver]) -> Result<Option<u32>, NoMemory>
+pub fn least_net_on_cycle(alloc: Global, drivers: &[Driver]) -> Result<Option<u32>, NoMemory>
     requires few { length drivers.now < 4294967296 }
     requires reads { ReadsNetsOnly drivers.now }
-    ensures { IfOk result (λ found. MatchOption found (IsAcyclic drivers.now) (λ net. IsLeastOnCycle drivers.now net)) }
+    ensures least { IfOk result (λ found. MatchOption found (IsAcyclic drivers.now) (λ net. IsLeastOnCycle drivers.now net)) }
+    ensures within { IfOk result (λ found. IfSome found (λ net. net < length drivers.now)) }
 {
     let ranks = component_ranks(alloc, drivers)?;
     for net in ranked_until(drivers, &ranks)..drivers.len() as u32 {
@@ -170,7 +171,7 @@ mod tests {
     ) -> Result<(), Fail> {
         assert!(rt; drivers.len() < 4294967296);
         assert!(rt; reads_nets_only(drivers));
-        assert_eq!(rt; least_on_cycle(alloc, drivers)?, answer);
+        assert_eq!(rt; least_net_on_cycle(alloc, drivers)?, answer);
         let ranks = component_ranks(alloc, drivers)?;
         let nets = drivers.len() as u32;
         assert_eq!(rt; ranked_until(drivers, &ranks), answer.unwrap_or(nets));

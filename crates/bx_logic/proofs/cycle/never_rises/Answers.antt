@@ -1,4 +1,4 @@
-use Rattle.std.proofs.Common.{ℕ, ◌<◌, ◌≤◌, slice_index}
+use Rattle.std.proofs.Common.{ℕ, ◌≤◌, slice_index}
 use Rattle.bx_logic.proofs.Cycles.{all-read}
 use Rattle.bx_logic.proofs.cycle.never_rises.Goals as goal
 

@@ -145,6 +145,23 @@ mod tests {
         Ok(drivers)
     }
 
+    /// So many nets, of which each reads those whose bits are set: of the first bits the first net.
+    fn nets_of_bits(alloc: Global, count: u32, bits: u64) -> Result<Vec<Driver>, NoMemory> {
+        let mut drivers = Vec::new(alloc);
+        let mut bits = bits;
+        for _ in 0..count {
+            let mut arguments = Vec::new(alloc);
+            for argument in 0..count {
+                if bits % 2 == 1 {
+                    arguments.push(argument)?;
+                }
+                bits /= 2;
+            }
+            drivers.push(driver(alloc, &arguments)?)?;
+        }
+        Ok(drivers)
+    }
+
     fn all_less(numbers: &[u32], bound: usize) -> bool
         ensures { IsTrue result → All (λ m. m < bound) numbers.now }
     {
@@ -162,20 +179,15 @@ mod tests {
         true
     }
 
-    /// This is the answer, and the ranks lead to it with no walk from any net before it.
-    fn expect_least(
-        rt: &impl Abort,
-        alloc: Global,
-        drivers: &[Driver],
-        answer: Option<u32>,
-    ) -> Result<(), Fail> {
+    /// The answer, to which the ranks lead with no walk from any net before it.
+    fn least(rt: &impl Abort, alloc: Global, drivers: &[Driver]) -> Result<Option<u32>, Fail> {
         assert!(rt; drivers.len() < 4294967296);
         assert!(rt; reads_nets_only(drivers));
-        assert_eq!(rt; least_net_on_cycle(alloc, drivers)?, answer);
+        let answer = least_net_on_cycle(alloc, drivers)?;
         let ranks = component_ranks(alloc, drivers)?;
         let nets = drivers.len() as u32;
         assert_eq!(rt; ranked_until(drivers, &ranks), answer.unwrap_or(nets));
-        Ok(())
+        Ok(answer)
     }
 
     #[test]
@@ -193,7 +205,7 @@ mod tests {
         ];
         for (rows, answer) in cases {
             let drivers = nets(rt.alloc(), rows)?;
-            expect_least(&rt, rt.alloc(), &drivers, answer)?;
+            assert_eq!(rt; least(&rt, rt.alloc(), &drivers)?, answer);
         }
         Ok(())
     }
@@ -208,7 +220,7 @@ mod tests {
         ];
         for (count, last, answer) in cases {
             let drivers = chain(rt.alloc(), count, last)?;
-            expect_least(&rt, rt.alloc(), &drivers, answer)?;
+            assert_eq!(rt; least(&rt, rt.alloc(), &drivers)?, answer);
         }
         let mut wide = Vec::new(rt.alloc());
         for argument in 0..520_000 {
@@ -216,6 +228,25 @@ mod tests {
         }
         let mut drivers = chain(rt.alloc(), 1_001, &[])?;
         drivers.push(driver(rt.alloc(), &wide)?)?;
-        expect_least(&rt, rt.alloc(), &drivers, None)
+        assert_eq!(rt; least(&rt, rt.alloc(), &drivers)?, None);
+        Ok(())
+    }
+
+    #[test]
+    fn ranks_lead_to_the_answer(rt: HostRuntime) -> Result<(), Fail> {
+        for bits in 0..65_536 {
+            let every_four = nets_of_bits(rt.alloc(), 4, bits)?;
+            least(&rt, rt.alloc(), &every_four)?;
+        }
+        let mut state: u64 = 1;
+        for _ in 0..50_000 {
+            let last = state;
+            state = state
+                .wrapping_mul(6_364_136_223_846_793_005)
+                .wrapping_add(1);
+            let sparse_six = nets_of_bits(rt.alloc(), 6, last >> 24 & state >> 28)?;
+            least(&rt, rt.alloc(), &sparse_six)?;
+        }
+        Ok(())
     }
 }

@@ -1,8 +1,8 @@
 //! The least-numbered net that depends on itself. One that only reads such a net, or lies between two
 //! cycles, is none. The ranks of the components show up to which net there is none, in time linear in
 //! nets and arguments, and a walk from that net finds a way back to it. The clauses rest on the check
-//! of the ranks and on the walk: were the ranks wrong, more nets would be walked from, and the answer
-//! be the same.
+//! of the ranks and on the walk alone: were the ranks wrong, the nets after it would be walked from in
+//! turn, in quadratic time, for the same answer. The tests look for such a case and find none.
 ghost use Rattle.std.specs.Prelude.{◌≡◌, ℕ, ◌<◌, ◌≤◌, ◌↔◌, All, length, slice_index, IfOk, IfSome, IsTrue, MatchOption};
 ghost use Rattle.bx_logic.specs.Nets.{DependsOn, IsAcyclic};
 ghost use Rattle.bx_logic.specs.Cycles.{ReadsNetsOnly, IsLeastOnCycle, NeverRises, FallsFrom};
@@ -135,7 +135,7 @@ mod tests {
         Ok(drivers)
     }
 
-    /// So many nets of which each reads the next one, and the last reads this one, if any.
+    /// So many nets, of which each reads the next one and the last reads these.
     fn chain(alloc: Global, count: u32, last: &[u32]) -> Result<Vec<Driver>, NoMemory> {
         let mut drivers = Vec::new(alloc);
         for next in 1..count {
@@ -145,7 +145,7 @@ mod tests {
         Ok(drivers)
     }
 
-    /// So many nets, of which each reads those whose bits are set: of the first bits the first net.
+    /// So many nets, of which each reads those whose bits are set among its own as many bits.
     fn nets_of_bits(alloc: Global, count: u32, bits: u64) -> Result<Vec<Driver>, NoMemory> {
         let mut drivers = Vec::new(alloc);
         let mut bits = bits;
@@ -195,11 +195,16 @@ mod tests {
         let cases: [(&[&[u32]], Option<u32>); 9] = [
             (&[], None),
             (&[&[1, 2], &[2], &[]], None),
+            // a net that reads itself
             (&[&[], &[1]], Some(1)),
+            // a cycle of two, and a net that only reads it, numbered after it and before it
             (&[&[], &[2], &[1], &[0, 1]], Some(1)),
             (&[&[3, 1], &[2], &[1], &[]], Some(1)),
+            // net 0 lies between two cycles
             (&[&[3], &[2, 0], &[1], &[4], &[3]], Some(1)),
+            // two cycles, of which the one with the least net is found
             (&[&[1], &[], &[5], &[4], &[3], &[2]], Some(2)),
+            // cycles that share a net
             (&[&[1], &[2, 4], &[3], &[1], &[0]], Some(0)),
             (&[&[6], &[2], &[3, 5], &[4], &[2, 6], &[1], &[]], Some(1)),
         ];
@@ -234,6 +239,7 @@ mod tests {
 
     #[test]
     fn ranks_lead_to_the_answer(rt: HostRuntime) -> Result<(), Fail> {
+        // every list of four gates, and sparser lists of six
         for bits in 0..65_536 {
             let every_four = nets_of_bits(rt.alloc(), 4, bits)?;
             least(&rt, rt.alloc(), &every_four)?;

@@ -3,7 +3,7 @@ use Rattle.std.proofs.Common.{◌≡◌, ℕ, zero, suc, ◌+◌, ◌<◌, ◌�
 use Rattle.std.specs.Prelude.{◌↔◌, IsTrue}
 use Rattle.std.specs.List.{All, Contains}
 use Rattle.std.proofs.lemmas.Bool.{cases_eq, cases_lt}
-use Rattle.std.proofs.lemmas.List.Elements.{Contains-append_left, Contains-append_right, Contains-append_cases, Contains-push, All-contains, All-same, All-weaker, All-contains_itself}
+use Rattle.std.proofs.lemmas.List.Elements.{Contains-append_left, Contains-append_right, Contains-append_cases, Contains-push_cases, Contains-push, All-contains, All-same, All-weaker, All-contains_itself}
 use Rattle.std.proofs.lemmas.List.{length-append, length-set, nil_from_length, length-replicate, get_or-replicate, get_or_default, get_or_past}
 use Rattle.bx_logic.specs.declared.driver.Driver.{Driver}
 use Rattle.bx_logic.specs.declared.driver.Driver.TheVariants.{Constant}
@@ -74,21 +74,15 @@ walk-begin drivers start seen pending is_pending is_seen =
       next = λ n m s r. absurd (none n s);
     }
 
-Contains-one : (n m : ℕ) → Contains (n ∷ []) m → n ≡ m
-Contains-one n m (k, h, e) = elim (cases_eq k 0) [
-  | inl z ↦ subst (λ (j : ℕ). get_or (n ∷ []) j m ≡ m) z e
-  | inr ne ↦ absurd (omega arith)
-]
-
 -- the last pending net was seen before
 pub walk-again : (drivers : List Driver) (start : ℕ) (seen : List Bool) (pending rest : List ℕ) (n : ℕ) → pending ≡ rest ++ n ∷ [] →
     IsSeen seen n → IsWalk drivers start seen pending → IsWalk drivers start seen rest
 walk-again drivers start seen pending rest n is_pending s walk =
     let met : (m : ℕ) → IsMet seen pending m → IsMet seen rest m = λ m h. elim h [
       | inl t ↦ inl t
-      | inr c ↦ elim (Contains-append_cases rest (n ∷ []) m (subst (λ (xs : List ℕ). Contains xs m) is_pending c)) [
+      | inr c ↦ elim (Contains-push_cases rest n m (subst (λ (xs : List ℕ). Contains xs m) is_pending c)) [
         | inl d ↦ inr d
-        | inr e ↦ inl (subst (λ (k : ℕ). IsSeen seen k) (Contains-one n m e) s)
+        | inr e ↦ inl (subst (λ (k : ℕ). IsSeen seen k) e s)
       ]
     ] in
     record {
@@ -118,9 +112,9 @@ walk-on drivers start seen pending rest after n is_pending is_after l walk =
     λ m c. subst (λ (xs : List ℕ). Contains xs m) (sym is_after) (Contains-append_right rest args m c) in
     let met : (m : ℕ) → IsMet seen pending m → IsMet (set seen n true) after m = λ m h. elim h [
       | inl t ↦ inl (keep m t)
-      | inr c ↦ elim (Contains-append_cases rest (n ∷ []) m (subst (λ (xs : List ℕ). Contains xs m) is_pending c)) [
+      | inr c ↦ elim (Contains-push_cases rest n m (subst (λ (xs : List ℕ). Contains xs m) is_pending c)) [
         | inl d ↦ inr (subst (λ (xs : List ℕ). Contains xs m) (sym is_after) (Contains-append_left rest args m d))
-        | inr e ↦ inl (subst (λ (k : ℕ). IsSeen (set seen n true) k) (Contains-one n m e) now)
+        | inr e ↦ inl (subst (λ (k : ℕ). IsSeen (set seen n true) k) e now)
       ]
     ] in
     record {

@@ -1,5 +1,5 @@
 -- The search for components: which nets its parts may name.
-use Rattle.std.specs.Prelude.{◌≡◌, ℕ, ◌<◌, List, length, All}
+use Rattle.std.specs.Prelude.{◌≡◌, ℕ, ◌<◌, ◌≤◌, ◌⊎◌, List, Option, Some, None, length, slice_index_or, All, Contains}
 use Rattle.bx_logic.specs.declared.components.Step.{Step}
 use Rattle.bx_logic.specs.declared.components.Step.TheVariants.{Enter, Leave}
 use Rattle.bx_logic.specs.declared.components.Components.{Components}
@@ -16,4 +16,13 @@ AreSteps nets steps = All (λ step. net_of step < nets) steps
 pub record AreComponents (nets : ℕ) (components : Components) : Type 0 where
   pub places : length components.places.items ≡ nets
   pub ranks : length components.ranks.items ≡ nets
-  pub open_nets : All (λ n. n < nets) components.open.items
+  pub open_nets : All (λ n. n < nets) components.open_nets.items
+
+abbrev pub place_of : List (Option ℕ) → ℕ → Option ℕ
+place_of places n = slice_index_or places n None
+
+-- the smallest of a place and of the places that nets among these have
+pub record IsLowestPlace (places : List (Option ℕ)) (nets : List ℕ) (place lowest : ℕ) : Type 0 where
+  pub at_most : lowest ≤ place
+  pub below : (n p : ℕ) → Contains nets n → place_of places n ≡ Some p → lowest ≤ p
+  pub attained : (lowest ≡ place) ⊎ ((n : ℕ) × Contains nets n × (place_of places n ≡ Some lowest))

@@ -3,11 +3,12 @@
 //! The components are found by Tarjan's search, in time linear in nets and arguments, with the nets
 //! still to be entered and left in a list, so that depth costs no more than width. The clauses promise
 //! a rank for each net and no more: who uses the ranks is to check them.
-ghost use Rattle.std.specs.Prelude.{◌≡◌, ◌<◌, ◌++◌, ◌∷◌, All, IfOk, OnOk, length, map, vec_len};
+ghost use Rattle.std.specs.List.{range_with_len};
+ghost use Rattle.std.specs.Prelude.{◌≡◌, ◌<◌, ◌++◌, [], ◌∷◌, slice_set, All, IfOk, OnOk, length, map, vec_len};
 ghost use Rattle.bx_logic.specs.declared.components.Step.TheVariants.{Enter, Leave};
 ghost use Rattle.bx_logic.specs.Nets.{arguments_of, driver_at};
 ghost use Rattle.bx_logic.specs.Cycles.{ReadsNetsOnly};
-ghost use Rattle.bx_logic.specs.Components.{AreSteps, AreComponents};
+ghost use Rattle.bx_logic.specs.Components.{AreSteps, AreComponents, IsLowestPlace};
 
 use crate::{Driver, NoMemory};
 use std::alloc::Global;
@@ -37,19 +38,18 @@ struct Components {
     /// its component.
     places: Vec<Option<usize>>,
     ranks: Vec<u32>,
-    open: Vec<u32>,
+    open_nets: Vec<u32>,
     closed: u32,
 }
 
 /// The smallest of this place and the places of the open nets among these.
 fn lowest_place(places: &[Option<usize>], nets: &[u32], place: usize) -> usize
     requires { All (λ m. m < length places.now) nets.now }
+    ensures { IsLowestPlace places.now nets.now place result }
 {
     let mut lowest = place;
     for net in nets {
-        if let Some(other) = places[*net as usize] {
-            lowest = lowest.min(other);
-        }
+        lowest = lowest.min(places[*net as usize].unwrap_or(lowest));
     }
     lowest
 }
@@ -62,7 +62,7 @@ impl Components {
         Ok(Components {
             places: vec![in alloc; None; nets]?,
             ranks: vec![in alloc; 0; nets]?,
-            open: Vec::new(alloc),
+            open_nets: Vec::new(alloc),
             closed: 0,
         })
     }
@@ -71,10 +71,12 @@ impl Components {
     fn enter(&mut self, net: u32) -> Result<(), NoMemory>
         requires components { AreComponents (length self.old.places.items) self.old }
         requires within { net < length self.old.places.items }
-        ensures { OnOk result (AreComponents (length self.old.places.items) self.new) }
+        ensures components { OnOk result (AreComponents (length self.old.places.items) self.new) }
+        ensures place { OnOk result (self.new.places.items ≡ slice_set self.old.places.items net (Some (vec_len self.old.open_nets))) }
+        ensures opened { OnOk result (self.new.open_nets.items ≡ self.old.open_nets.items ++ (net ∷ [])) }
     {
-        self.places[net as usize] = Some(self.open.len());
-        self.open.push(net)?;
+        self.places[net as usize] = Some(self.open_nets.len());
+        self.open_nets.push(net)?;
         Ok(())
     }
 
@@ -83,7 +85,7 @@ impl Components {
         requires { AreComponents (length self.old.places.items) self.old }
         ensures { AreComponents (length self.old.places.items) self.new }
     {
-        while let Some(net) = self.open.pop() {
+        while let Some(net) = self.open_nets.pop() {
             self.places[net as usize] = None;
             self.ranks[net as usize] = self.closed;
             if net == first {
@@ -114,7 +116,7 @@ impl Components {
 
 /// The steps to enter each of so many nets.
 fn all_entries(alloc: Global, nets: u32) -> Result<Vec<Step>, NoMemory>
-    ensures { IfOk result (λ steps. AreSteps nets steps.items) }
+    ensures { IfOk result (λ steps. steps.items ≡ map Enter (range_with_len 0 nets)) }
 {
     let mut steps = Vec::new(alloc);
     for net in 0..nets {

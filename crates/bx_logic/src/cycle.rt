@@ -1,9 +1,9 @@
 //! The least-numbered net that depends on itself. One that only reads such a net, or lies between two
 //! cycles, is none. The ranks of the components show up to which net there is none, in time linear in
 //! nets and arguments, and a walk from that net finds a way back to it. The clauses rest on the check
-//! of the ranks and on the walk: were the ranks wrong, more nets would be walked from, and the answer
-//! be the same.
-ghost use Rattle.std.specs.Prelude.{◌≡◌, ℕ, ◌<◌, ◌≤◌, ◌↔◌, All, length, slice_index, IfOk, IsTrue, MatchOption};
+//! of the ranks and on the walk alone: were the ranks wrong, the nets after it would be walked from in
+//! turn, in quadratic time, for the same answer. The tests look for such a case and find none.
+ghost use Rattle.std.specs.Prelude.{◌≡◌, ℕ, ◌<◌, ◌≤◌, ◌↔◌, All, length, slice_index, IfOk, IfSome, IsTrue, MatchOption};
 ghost use Rattle.bx_logic.specs.Nets.{DependsOn, IsAcyclic};
 ghost use Rattle.bx_logic.specs.Cycles.{ReadsNetsOnly, IsLeastOnCycle, NeverRises, FallsFrom};
 
@@ -60,8 +60,8 @@ fn first_level(drivers: &[Driver], ranks: &[u32]) -> u32
     nets
 }
 
-/// A net up to which none depends on itself, as the ranks show: where none rises, a path never rises,
-/// and so none leads back to a net whose first steps all fall.
+/// How many nets from the first on the ranks show not to depend on themselves: where no net reads one
+/// of a greater rank, no way leads back to a net that reads smaller ranks alone.
 fn ranked_until(drivers: &[Driver], ranks: &[u32]) -> u32
     requires few { length drivers.now < 4294967296 }
     requires reads { ReadsNetsOnly drivers.now }
@@ -96,10 +96,11 @@ fn is_on_cycle(alloc: Global, drivers: &[Driver], start: u32) -> Result<bool, No
 }
 
 /// The least-numbered net that depends on itself, if one does.
-pub fn least_on_cycle(alloc: Global, drivers: &[Driver]) -> Result<Option<u32>, NoMemory>
+pub fn least_net_on_cycle(alloc: Global, drivers: &[Driver]) -> Result<Option<u32>, NoMemory>
     requires few { length drivers.now < 4294967296 }
     requires reads { ReadsNetsOnly drivers.now }
-    ensures { IfOk result (λ found. MatchOption found (IsAcyclic drivers.now) (λ net. IsLeastOnCycle drivers.now net)) }
+    ensures least { IfOk result (λ found. MatchOption found (IsAcyclic drivers.now) (λ net. IsLeastOnCycle drivers.now net)) }
+    ensures within { IfOk result (λ found. IfSome found (λ net. net < length drivers.now)) }
 {
     let ranks = component_ranks(alloc, drivers)?;
     for net in ranked_until(drivers, &ranks)..drivers.len() as u32 {
@@ -134,13 +135,30 @@ mod tests {
         Ok(drivers)
     }
 
-    /// So many nets of which each reads the next one, and the last reads this one, if any.
+    /// So many nets, of which each reads the next one and the last reads these.
     fn chain(alloc: Global, count: u32, last: &[u32]) -> Result<Vec<Driver>, NoMemory> {
         let mut drivers = Vec::new(alloc);
         for next in 1..count {
             drivers.push(driver(alloc, &[next])?)?;
         }
         drivers.push(driver(alloc, last)?)?;
+        Ok(drivers)
+    }
+
+    /// So many nets, of which each reads those whose bits are set among its own as many bits.
+    fn nets_of_bits(alloc: Global, count: u32, bits: u64) -> Result<Vec<Driver>, NoMemory> {
+        let mut drivers = Vec::new(alloc);
+        let mut bits = bits;
+        for _ in 0..count {
+            let mut arguments = Vec::new(alloc);
+            for argument in 0..count {
+                if bits % 2 == 1 {
+                    arguments.push(argument)?;
+                }
+                bits /= 2;
+            }
+            drivers.push(driver(alloc, &arguments)?)?;
+        }
         Ok(drivers)
     }
 
@@ -161,20 +179,15 @@ mod tests {
         true
     }
 
-    /// This is the answer, and the ranks lead to it with no walk from any net before it.
-    fn expect_least(
-        rt: &impl Abort,
-        alloc: Global,
-        drivers: &[Driver],
-        answer: Option<u32>,
-    ) -> Result<(), Fail> {
+    /// The answer, to which the ranks lead with no walk from any net before it.
+    fn least(rt: &impl Abort, alloc: Global, drivers: &[Driver]) -> Result<Option<u32>, Fail> {
         assert!(rt; drivers.len() < 4294967296);
         assert!(rt; reads_nets_only(drivers));
-        assert_eq!(rt; least_on_cycle(alloc, drivers)?, answer);
+        let answer = least_net_on_cycle(alloc, drivers)?;
         let ranks = component_ranks(alloc, drivers)?;
         let nets = drivers.len() as u32;
         assert_eq!(rt; ranked_until(drivers, &ranks), answer.unwrap_or(nets));
-        Ok(())
+        Ok(answer)
     }
 
     #[test]
@@ -182,17 +195,22 @@ mod tests {
         let cases: [(&[&[u32]], Option<u32>); 9] = [
             (&[], None),
             (&[&[1, 2], &[2], &[]], None),
+            // a net that reads itself
             (&[&[], &[1]], Some(1)),
+            // a cycle of two, and a net that only reads it, numbered after it and before it
             (&[&[], &[2], &[1], &[0, 1]], Some(1)),
             (&[&[3, 1], &[2], &[1], &[]], Some(1)),
+            // net 0 lies between two cycles
             (&[&[3], &[2, 0], &[1], &[4], &[3]], Some(1)),
+            // two cycles, of which the one with the least net is found
             (&[&[1], &[], &[5], &[4], &[3], &[2]], Some(2)),
+            // cycles that share a net
             (&[&[1], &[2, 4], &[3], &[1], &[0]], Some(0)),
             (&[&[6], &[2], &[3, 5], &[4], &[2, 6], &[1], &[]], Some(1)),
         ];
         for (rows, answer) in cases {
             let drivers = nets(rt.alloc(), rows)?;
-            expect_least(&rt, rt.alloc(), &drivers, answer)?;
+            assert_eq!(rt; least(&rt, rt.alloc(), &drivers)?, answer);
         }
         Ok(())
     }
@@ -207,7 +225,7 @@ mod tests {
         ];
         for (count, last, answer) in cases {
             let drivers = chain(rt.alloc(), count, last)?;
-            expect_least(&rt, rt.alloc(), &drivers, answer)?;
+            assert_eq!(rt; least(&rt, rt.alloc(), &drivers)?, answer);
         }
         let mut wide = Vec::new(rt.alloc());
         for argument in 0..520_000 {
@@ -215,6 +233,26 @@ mod tests {
         }
         let mut drivers = chain(rt.alloc(), 1_001, &[])?;
         drivers.push(driver(rt.alloc(), &wide)?)?;
-        expect_least(&rt, rt.alloc(), &drivers, None)
+        assert_eq!(rt; least(&rt, rt.alloc(), &drivers)?, None);
+        Ok(())
+    }
+
+    #[test]
+    fn ranks_lead_to_the_answer(rt: HostRuntime) -> Result<(), Fail> {
+        // every list of four gates, and sparser lists of six
+        for bits in 0..65_536 {
+            let every_four = nets_of_bits(rt.alloc(), 4, bits)?;
+            least(&rt, rt.alloc(), &every_four)?;
+        }
+        let mut state: u64 = 1;
+        for _ in 0..50_000 {
+            let last = state;
+            state = state
+                .wrapping_mul(6_364_136_223_846_793_005)
+                .wrapping_add(1);
+            let sparse_six = nets_of_bits(rt.alloc(), 6, last >> 24 & state >> 28)?;
+            least(&rt, rt.alloc(), &sparse_six)?;
+        }
+        Ok(())
     }
 }

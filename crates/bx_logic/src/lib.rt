@@ -16,7 +16,7 @@ mod net;
 mod op;
 
 pub use args::Args;
-pub use cycle::least_on_cycle;
+pub use cycle::least_net_on_cycle;
 pub use driver::Driver;
 pub use memory::NoMemory;
 pub use name::Name;

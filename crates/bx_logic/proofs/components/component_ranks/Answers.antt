@@ -1,8 +1,8 @@
-use Rattle.std.proofs.Common.{ℕ, ◌<◌, length, arith, ◌∙◌, subst}
+use Rattle.std.proofs.Common.{rules, ℕ, ◌<◌, length, arith, ◌∙◌, subst}
 use Rattle.std.proofs.lemmas.List.{length-set}
 use Rattle.bx_logic.specs.declared.components.Step.{Step}
 use Rattle.bx_logic.specs.Components.{AreComponents, net_of}
-use Rattle.bx_logic.proofs.ComponentSteps.{steps-popped, steps-entered, steps-less}
+use Rattle.bx_logic.proofs.ComponentSteps.{steps-begun, steps-popped, steps-entered, steps-less}
 use Rattle.bx_logic.proofs.components.component_ranks.Goals as goal
 
 pub loop-step-smaller-in-Continue-branch-5 : goal.loop-step-smaller-in-Continue-branch-5
@@ -18,7 +18,7 @@ loop-step-preserved-in-Continue-branch-5 c =
     let popped = steps-popped _ _ c.pop.new.self.items c.in-Some.step c.in-Some.ensures.items c.loop-step.invariant.steps in
     let within = subst (λ (s : Step). net_of s < length c.args.drivers.now) c.in-Enter.is popped.1 in
     record {
-      components = subst (λ (k : ℕ). AreComponents k c.enter.new.self) c.loop-step.invariant.components.places c.in_ok-enter-in-Enter.ensures;
+      components = subst (λ (k : ℕ). AreComponents k c.enter.new.self) c.loop-step.invariant.components.places c.in_ok-enter-in-Enter.ensures.components;
       seen = length-set _ _ _ ∙ c.loop-step.invariant.seen;
       steps = steps-entered _ _ _ _ _ c.in_ok-push_visit-in-Enter.ensures within c.arguments_at.ensures.within popped.0;
     }
@@ -28,4 +28,11 @@ loop-step-preserved c = record {
   components = subst (λ (k : ℕ). AreComponents k c.leave.new.self) c.loop-step.invariant.components.places c.leave.ensures;
   seen = c.loop-step.invariant.seen;
   steps = (steps-popped _ _ c.pop.new.self.items c.in-Some.step c.in-Some.ensures.items c.loop-step.invariant.steps).0;
+}
+
+pub loop-step-init : goal.loop-step-init
+loop-step-init c = record {
+  components = c.in_ok-components.ensures;
+  seen = search rules;
+  steps = steps-begun _ _ c.in_ok-steps.ensures;
 }

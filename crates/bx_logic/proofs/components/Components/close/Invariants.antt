@@ -6,4 +6,4 @@ abbrev pub invariant-loop-net : goal.invariant-loop-net
 invariant-loop-net l = AreComponents (length l.fn.self.places.items) l.self
 
 abbrev pub decreases-loop-net : goal.decreases-loop-net
-decreases-loop-net l = length l.self.open.items
+decreases-loop-net l = length l.self.open_nets.items

@@ -6,3 +6,4 @@ pub mod grids;
 pub mod networks;
 pub mod operations;
 pub mod orders;
+pub mod reports;

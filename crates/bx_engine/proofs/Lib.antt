@@ -22,3 +22,7 @@ pub mod Serving
 pub mod Clauses
 pub mod Answers
 pub mod Meanings
+pub mod Spellings
+pub mod PlainTexts
+pub mod FormNames
+pub mod Reports

@@ -1,6 +1,6 @@
 -- What is said, as lines: the report of a layout, and the line of a refusal.
-use Rattle.std.specs.Prelude.{ℕ, List, [], ◌∷◌, ◌++◌, length, map, flat_map, codes, decimal, Option, None, Some, unwrap_or}
-use Rattle.std.specs.List.{range_with_len}
+use Rattle.std.specs.Prelude.{ℕ, List, [], ◌∷◌, ◌++◌, ◌≢◌, ◌<◌, ◌^◌, length, map, flat_map, codes, decimal, Option, None, Some, unwrap_or}
+use Rattle.std.specs.List.{range_with_len, AllByRecursion}
 use Rattle.bx_verilog.specs.Module.{Text}
 use Rattle.bx_engine.specs.declared.grid.Ratio.{Ratio}
 use Rattle.bx_engine.specs.declared.status.InputFault.{InputFault}
@@ -9,7 +9,7 @@ use Rattle.bx_engine.specs.declared.status.WordFault.{WordFault}
 use Rattle.bx_engine.specs.declared.status.WordFault.TheVariants.{Command}
 use Rattle.bx_engine.specs.Forms.{form_name}
 use Rattle.bx_engine.specs.Tiles.{x_of, y_of}
-use Rattle.bx_engine.specs.Grids.{FormGrid, Pin, Pins}
+use Rattle.bx_engine.specs.Grids.{FormGrid, IsFormGrid, IsTile, Pin, Pins}
 use Rattle.bx_engine.specs.Networks.{Network}
 use Rattle.bx_engine.specs.Rows.{row_tiles}
 
@@ -51,6 +51,24 @@ report_lines name N g pins =
 
 unfoldable pub report_text : Text → Network → FormGrid → Pins → Text
 report_text name N g pins = lines_text (report_lines name N g pins)
+
+-- no byte is a space or a line feed
+abbrev pub IsPlain : Text → Type 0
+IsPlain text = AllByRecursion (λ byte. (byte ≢ 32) × (byte ≢ 10)) text
+
+-- a plain name, on a tile of the grid
+abbrev pub IsPlainPin : FormGrid → Pin → Type 0
+IsPlainPin g pin = IsPlain pin.name × IsTile g pin.tile
+
+-- a layout that a report can tell from any other: names of one word, a form grid whose sides are
+-- numbers of 32 bits, as those of a `Ratio` are, and ports on its tiles
+pub record IsReportable (name : Text) (g : FormGrid) (pins : Pins) : Type 0 where
+  pub plain : IsPlain name
+  pub grid : IsFormGrid g
+  pub width : g.ratio.w < 2 ^ 32
+  pub height : g.ratio.h < 2 ^ 32
+  pub inputs : AllByRecursion (IsPlainPin g) pins.inputs
+  pub outputs : AllByRecursion (IsPlainPin g) pins.outputs
 
 -- what a refusal names
 abbrev pub word_fault_text : WordFault → Text

@@ -5,3 +5,4 @@ pub mod forms;
 pub mod grids;
 pub mod networks;
 pub mod orders;
+pub mod reports;

@@ -36,3 +36,10 @@ loop-step-init c = record {
   seen = search rules;
   steps = steps-begun _ _ c.in_ok-steps.ensures;
 }
+
+pub loop-step-preserved-then-index : goal.loop-step-preserved-then-index
+loop-step-preserved-then-index c = record {
+  components = c.loop-step.invariant.components;
+  seen = c.loop-step.invariant.seen;
+  steps = (steps-popped _ _ c.pop.new.self.items c.in-Some.step c.in-Some.ensures.items c.loop-step.invariant.steps).0;
+}

@@ -1,12 +1,11 @@
 -- A report is that of one layout.
 use Rattle.std.proofs.Common.{◌≡◌, ℕ, zero, suc, ◌+◌, ◌*◌, ◌/◌, ◌%◌, ◌<◌, ◌^◌, true, false, List, [], ◌∷◌, ◌++◌, length, map, take, drop, get_or, Option, Some, None, refl, sym, ap, subst, ◌∙◌, append_assoc, arith}
-use Rattle.std.specs.Prelude.{◌≢◌, codes, decimal}
+use Rattle.std.specs.Prelude.{◌≢◌, IsTrue, codes, decimal}
 use Rattle.std.specs.List.{AllByRecursion, range_with_len}
 use Rattle.std.proofs.lemmas.Fmt.{decimal_injective}
 use Rattle.std.proofs.lemmas.List.{map-append, ext_get_or, get_or-take, get_or-drop}
 use Rattle.std.proofs.lemmas.List.FromFn.{get_or-map-range_with_len}
 use Rattle.std.proofs.lemmas.Nat.{div-add-mod', rows}
-use Rattle.std.specs.Prelude.{IsTrue}
 use Rattle.std.specs.Char.{is_ascii_alphanumeric}
 use Rattle.bx_verilog.specs.Module.{Text}
 use Rattle.bx_verilog.specs.Chain.{Chain, IsChain, IsName, inversions}
@@ -19,8 +18,8 @@ use Rattle.bx_engine.specs.Rows.{row_tiles}
 use Rattle.bx_engine.specs.Grids.{FormGrid, IsFormGrid, Pin, Pins}
 use Rattle.bx_engine.specs.Networks.{Network}
 use Rattle.bx_engine.specs.Texts.{lines_text, pin_line, row_line, tile_name, IsPlain, IsReportable, report_text, refusal_text}
-use Rattle.bx_engine.proofs.Spellings.{Line, line, line_text, first_word, IsPlainLine, each_map, each_of, each_append, map_once, lines_once, part_once}
-use Rattle.bx_engine.proofs.PlainTexts.{is_plain, decimal-plain, plain-tested}
+use Rattle.bx_engine.proofs.Spellings.{Line, line, line_text, first_word, IsPlainLine, each_map, each_append, each_of, map_once, lines_once, part_once}
+use Rattle.bx_engine.proofs.PlainTexts.{decimal-plain, plain-tested}
 use Rattle.bx_engine.proofs.FormNames.{IsFormTile, tile-plain, tile-once}
 
 -- a port's line
@@ -128,41 +127,36 @@ report-text : (name : Text) (N : Network) (g : FormGrid) (pins : Pins) → repor
 unfolding report_text
 report-text name N g pins = ap (λ (rest : List Text). lines_text (line_text (module_words name) ∷ line_text (nodes_words N) ∷ line_text (found_words g.ratio) ∷ rest)) (body-text g pins)
 
-each-any : {X : Type 0} (P : X → Type 0) → ((x : X) → P x) → (xs : List X) → AllByRecursion P xs
-each-any P h [] = tt
-each-any P h (x ∷ xs) = (h x, each-any P h xs)
+-- all lines made in this way
+each-made : {X : Type 0} (P : Line → Type 0) (f : X → Line) → ((x : X) → P (f x)) → (xs : List X) → AllByRecursion P (map f xs)
+each-made P f h [] = tt
+each-made P f h (x ∷ xs) = (h x, each-made P f h xs)
 
 report-plain : (name : Text) (N : Network) (g : FormGrid) (pins : Pins) → IsReportable name g pins → AllByRecursion IsPlainLine (report_words name N g pins)
 report-plain name N g pins is =
-    let plain : (key : Text) → is_plain key ≡ true → IsPlain key = plain-tested in
-    let inputs = each_map (pin_words (codes "input") g.ratio) (IsPlaced g.ratio) IsPlainLine (pin-plain (codes "input") (plain (codes "input") refl) g.ratio) pins.inputs is.inputs in
-    let outputs = each_map (pin_words (codes "output") g.ratio) (IsPlaced g.ratio) IsPlainLine (pin-plain (codes "output") (plain (codes "output") refl) g.ratio) pins.outputs is.outputs in
-    let shown = each_map (row_words g) (λ y. Unit {0}) IsPlainLine (λ y _. row-plain g is.grid y) (range_with_len 0 g.ratio.h) (each-any (λ y. Unit {0}) (λ y. tt) (range_with_len 0 g.ratio.h)) in (
-      (plain (codes "module") refl, (is.plain, tt)),
+    let inputs = each_map (pin_words (codes "input") g.ratio) (IsPlaced g.ratio) IsPlainLine (pin-plain (codes "input") (plain-tested (codes "input") refl) g.ratio) pins.inputs is.inputs in
+    let outputs = each_map (pin_words (codes "output") g.ratio) (IsPlaced g.ratio) IsPlainLine (pin-plain (codes "output") (plain-tested (codes "output") refl) g.ratio) pins.outputs is.outputs in
+    let shown = each-made IsPlainLine (row_words g) (row-plain g is.grid) (range_with_len 0 g.ratio.h) in (
+      (plain-tested (codes "module") refl, (is.plain, tt)),
       (
-        (plain (codes "nodes") refl, (decimal-plain (length N.nodes), (plain (codes "edges") refl, (decimal-plain (length N.edges), tt)))),
+        (plain-tested (codes "nodes") refl, (decimal-plain (length N.nodes), (plain-tested (codes "edges") refl, (decimal-plain (length N.edges), tt)))),
         (
-          (plain (codes "found") refl, (decimal-plain g.ratio.w, (decimal-plain g.ratio.h, tt))),
+          (plain-tested (codes "found") refl, (decimal-plain g.ratio.w, (decimal-plain g.ratio.h, tt))),
           each_append IsPlainLine _ _ inputs (each_append IsPlainLine _ _ outputs shown),
         ),
       ),
     )
 
--- read back
+-- the three kinds of line in the body, told apart
 
-input-other : codes "output" ≢ codes "input"
-input-other e = cc
+output-no_input : codes "output" ≢ codes "input"
+output-no_input e = cc
 
-input-row : codes "row" ≢ codes "input"
-input-row e = cc
+row-no_input : codes "row" ≢ codes "input"
+row-no_input e = cc
 
-output-row : codes "row" ≢ codes "output"
-output-row e = cc
-
--- all lines made of these begin with this word, or with another
-each-first : {X : Type 0} (P : Text → Type 0) (f : X → Line) → ((x : X) → P (first_word (f x))) → (xs : List X) → AllByRecursion (λ l. P (first_word l)) (map f xs)
-each-first P f h [] = tt
-each-first P f h (x ∷ xs) = (h x, each-first P f h xs)
+row-no_output : codes "row" ≢ codes "output"
+row-no_output e = cc
 
 tiles-once : (g : FormGrid) (tiles : List (Option ℕ)) → IsFormGrid g → IsFormGrid (record { ratio = g.ratio; tiles = tiles }) → rows_words g ≡ rows_words (record { ratio = g.ratio; tiles = tiles }) → g.tiles ≡ tiles
 tiles-once g tiles a b e =
@@ -180,11 +174,11 @@ body-once m n g tiles p q a b e =
     let into : Text → Pin → Line = λ key. pin_words key g.ratio in
     let ports : Text → List Pin → List Line = λ key pins. map (into key) pins in
     let within : List ℕ = range_with_len 0 g.ratio.h in
-    let is_input : (pins : List Pin) → AllByRecursion (λ l. first_word l ≡ codes "input") (ports (codes "input") pins) = each-first (λ word. word ≡ codes "input") (into (codes "input")) (λ pin. refl) in
-    let is_output : (pins : List Pin) → AllByRecursion (λ l. first_word l ≡ codes "output") (ports (codes "output") pins) = each-first (λ word. word ≡ codes "output") (into (codes "output")) (λ pin. refl) in
+    let is_input : (pins : List Pin) → AllByRecursion (λ l. first_word l ≡ codes "input") (ports (codes "input") pins) = each-made (λ l. first_word l ≡ codes "input") (into (codes "input")) (λ pin. refl) in
+    let is_output : (pins : List Pin) → AllByRecursion (λ l. first_word l ≡ codes "output") (ports (codes "output") pins) = each-made (λ l. first_word l ≡ codes "output") (into (codes "output")) (λ pin. refl) in
     let no_input : (k : FormGrid) (pins : List Pin) → AllByRecursion (λ l. first_word l ≢ codes "input") (ports (codes "output") pins ++ map (row_words k) within) =
-    λ k pins. each_append (λ l. first_word l ≢ codes "input") _ _ (each-first (λ word. word ≢ codes "input") (into (codes "output")) (λ pin. input-other) pins) (each-first (λ word. word ≢ codes "input") (row_words k) (λ y. input-row) within) in
-    let no_output : (k : FormGrid) → AllByRecursion (λ l. first_word l ≢ codes "output") (map (row_words k) within) = λ k. each-first (λ word. word ≢ codes "output") (row_words k) (λ y. output-row) within in
+    λ k pins. each_append (λ l. first_word l ≢ codes "input") _ _ (each-made (λ l. first_word l ≢ codes "input") (into (codes "output")) (λ pin. output-no_input) pins) (each-made (λ l. first_word l ≢ codes "input") (row_words k) (λ y. row-no_input) within) in
+    let no_output : (k : FormGrid) → AllByRecursion (λ l. first_word l ≢ codes "output") (map (row_words k) within) = λ k. each-made (λ l. first_word l ≢ codes "output") (row_words k) (λ y. row-no_output) within in
     let first = part_once (codes "input") (ports (codes "input") p.inputs) (ports (codes "input") q.inputs) _ _ (is_input p.inputs) (is_input q.inputs) (no_input g p.outputs) (no_input h q.outputs) e in
     let second = part_once (codes "output") (ports (codes "output") p.outputs) (ports (codes "output") q.outputs) _ _ (is_output p.outputs) (is_output q.outputs) (no_output g) (no_output h) first.1 in
     let pins : (key : Text) → (xs ys : List Pin) → AllByRecursion (IsPlaced g.ratio) xs → AllByRecursion (IsPlaced g.ratio) ys → ports key xs ≡ ports key ys → xs ≡ ys = λ key. map_once (into key) (IsPlaced g.ratio) (pin-once key g.ratio a.width a.height) in
@@ -229,7 +223,10 @@ unfolding refusal_text report_text
 no_report fault name N g pins e = let first : get_or (codes "refused") 0 0 ≡ get_or (codes "module") 0 0 = ap (λ (text : Text). get_or text 0 0) e in absurd (omega arith)
 
 letter-plain : (byte : ℕ) → IsTrue (is_ascii_alphanumeric byte) → (byte ≢ 32) × (byte ≢ 10)
-letter-plain byte h = ((λ e. let lost : false ≡ true = subst (λ b. is_ascii_alphanumeric b ≡ true) e h in cc), (λ e. let lost : false ≡ true = subst (λ b. is_ascii_alphanumeric b ≡ true) e h in cc))
+letter-plain byte h = (other 32 refl, other 10 refl)
+  where
+    other : (stop : ℕ) → is_ascii_alphanumeric stop ≡ false → byte ≢ stop
+    other stop none e = let lost : false ≡ true = sym none ∙ ap is_ascii_alphanumeric (sym e) ∙ h in cc
 
 name-plain : (name : Text) → IsName name → IsPlain name
 name-plain name is = each_of (λ byte. IsTrue (is_ascii_alphanumeric byte)) (λ byte. (byte ≢ 32) × (byte ≢ 10)) letter-plain name is.each

@@ -1,0 +1,48 @@
+-- What the tokens of a text are: from its first byte on, the text is cut into pieces, each of them what
+-- the first rule that fits takes of what is left.
+use Rattle.std.specs.Prelude.{◌≡◌, ℕ, ◌+◌, ◌<◌, ◌≤◌, List, [], ◌∷◌, ◌++◌, drop, length, Option, Some, None, Ok, Err}
+use Rattle.bx_lex.specs.declared.token.TokenKind.{TokenKind}
+use Rattle.bx_lex.specs.declared.token.Token.{Token}
+use Rattle.bx_lex.specs.declared.token.LexFault.{LexFault}
+use Rattle.bx_lex.specs.declared.rules.Piece.{Piece}
+use Rattle.bx_lex.specs.Rules.{front}
+
+-- tokens in the order of a text, and the length of the text
+pub record TokenList : Type 0 where
+  pub tokens : List Token
+  pub end : ℕ
+
+-- The text at a place begins with these pieces, and goes on with the rest at the place behind them.
+abbrev pub IsCut : ℕ → List ℕ → List Piece → ℕ → List ℕ → Type 0
+IsCut place text [] behind rest = (place ≡ behind) × (text ≡ rest)
+IsCut place text (p ∷ ps) behind rest = (front place text ≡ Ok p) × IsCut (place + p.len) (drop p.len text) ps behind rest
+
+-- the token that stands from one place to another, if it is one
+abbrev pub token_at : ℕ → ℕ → Option TokenKind → List Token
+token_at place behind None = []
+token_at place behind (Some kind) = record { start = place; end = behind; kind = kind } ∷ []
+
+-- the tokens among pieces of which the first stands at this place
+abbrev pub tokens_at : ℕ → List Piece → List Token
+tokens_at place [] = []
+tokens_at place (p ∷ ps) = token_at place (place + p.len) p.kind ++ tokens_at (place + p.len) ps
+
+-- The text is cut to its end, and these are the tokens among its pieces.
+pub record HasTokens (text : List ℕ) (found : TokenList) : Type 0 where
+  pub pieces : List Piece
+  pub cut : IsCut 0 text pieces found.end []
+  pub tokens : found.tokens ≡ tokens_at 0 pieces
+
+-- The text is cut up to a place at which no rule takes anything, and this is the fault there.
+pub record HasFault (text : List ℕ) (fault : LexFault) : Type 0 where
+  pub pieces : List Piece
+  pub place : ℕ
+  pub rest : List ℕ
+  pub cut : IsCut 0 text pieces place rest
+  pub goes_on : 0 < length rest
+  pub stops : front place rest ≡ Err fault
+
+-- Spans in order from one place to another, none of them empty.
+abbrev pub AreSpans : ℕ → List Token → ℕ → Type 0
+AreSpans from [] to = from ≤ to
+AreSpans from (t ∷ ts) to = (from ≤ t.start) × (t.start < t.end) × AreSpans t.end ts to

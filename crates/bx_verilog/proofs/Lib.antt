@@ -4,3 +4,4 @@ pub mod Apart
 pub mod Ports
 pub mod Ends
 pub mod Whole
+pub mod ReadsExpressions

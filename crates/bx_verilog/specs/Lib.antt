@@ -5,3 +5,7 @@ pub mod Names
 pub mod Headings
 pub mod Statements
 pub mod Reads
+pub mod Trees
+pub mod Expressions
+pub mod ReadsExpressions
+pub mod Gives

@@ -1,18 +1,34 @@
--- Cutting a text one piece further.
-use Rattle.std.proofs.Common.{◌≡◌, ℕ, ◌+◌, ◌<◌, ◌≤◌, List, [], ◌∷◌, ◌++◌, length, drop, Option, Some, None, Ok, sym, ap, ◌∙◌, arith, append_assoc, append-nil, length-drop}
+-- Cuts of a text: how far they reach, where the tokens among the pieces stand, and one piece more.
+use Rattle.std.proofs.Common.{◌≡◌, ℕ, ◌+◌, ◌<◌, ◌≤◌, List, [], ◌∷◌, ◌++◌, length, drop, Option, Some, None, Ok, sym, ap, ◌∙◌, arith, append_assoc, append-nil, length-drop, get_or, zero, suc}
+use Rattle.std.proofs.lemmas.List.{nil_from_length}
 use Rattle.bx_lex.specs.declared.token.Token.{Token}
 use Rattle.bx_lex.specs.declared.token.TokenKind.{TokenKind}
 use Rattle.bx_lex.specs.declared.rules.Piece.{Piece}
 use Rattle.bx_lex.specs.Rules.{front}
-use Rattle.bx_lex.specs.Tokens.{IsCut, token_at, tokens_at, AreSpans}
+use Rattle.bx_lex.specs.Tokens.{TokenList, HasTokens, IsCut, token_at, tokens_at, AreSpans}
+use Rattle.bx_lex.proofs.Sizes.{piece_taken}
 
--- the text has been cut up to a place, and these are the tokens so far
-pub record Reaches (text : List ℕ) (tokens : List Token) (place : ℕ) (rest : List ℕ) : Type 0 where
-  pub pieces : List Piece
-  pub cut : IsCut 0 text pieces place rest
-  pub found : tokens ≡ tokens_at 0 pieces
-  pub room : place + length rest ≡ length text
-  pub spans : AreSpans 0 tokens place
+-- the pieces and the rest are the text
+pub cut_room : (from : ℕ) (text : List ℕ) (ps : List Piece) (place : ℕ) (rest : List ℕ) → IsCut from text ps place rest → place + length rest ≡ from + length text
+cut_room from text [] place rest cut = omega (arith, cut.0, ap length cut.1)
+cut_room from text (p ∷ ps) place rest cut =
+    let size = piece_taken from text p cut.0 in
+    let tail = cut_room (from + p.len) (drop p.len text) ps place rest cut.1 in
+    omega (arith, length-drop {A = ℕ}, size.1, tail)
+
+spans_before : (from after : ℕ) (ts : List Token) (to : ℕ) → from ≤ after → AreSpans after ts to → AreSpans from ts to
+spans_before from after [] to h s = omega arith
+spans_before from after (t ∷ ts) to h s = (omega (arith, s.0), s.1, s.2)
+
+spans_first : (from n : ℕ) (kind : Option TokenKind) (ts : List Token) (to : ℕ) → 0 < n → AreSpans (from + n) ts to → AreSpans from (token_at from (from + n) kind ++ ts) to
+spans_first from n None ts to h s = spans_before from (from + n) ts to (omega arith) s
+spans_first from n (Some kind) ts to h s = (omega arith, omega arith, s)
+
+-- the tokens stand in order
+pub cut_spans : (from : ℕ) (text : List ℕ) (ps : List Piece) (place : ℕ) (rest : List ℕ) → IsCut from text ps place rest → AreSpans from (tokens_at from ps) place
+cut_spans from text [] place rest cut = omega (arith, cut.0)
+cut_spans from text (p ∷ ps) place rest cut =
+    spans_first from p.len p.kind (tokens_at (from + p.len) ps) place (piece_taken from text p cut.0).0 (cut_spans (from + p.len) (drop p.len text) ps place rest cut.1)
 
 cut_more : (from : ℕ) (text : List ℕ) (ps : List Piece) (place : ℕ) (rest : List ℕ) (p : Piece) → IsCut from text ps place rest → front place rest ≡ Ok p → IsCut from text (ps ++ p ∷ []) (place + p.len) (drop p.len rest)
 cut_more from text [] place rest p cut e = (rw (cut.0, cut.1) e, (ap (λ n. n + p.len) cut.0, ap (drop p.len) cut.1))
@@ -20,19 +36,43 @@ cut_more from text (q ∷ ps) place rest p cut e = (cut.0, cut_more (from + q.le
 
 tokens_more : (from : ℕ) (text : List ℕ) (ps : List Piece) (place : ℕ) (rest : List ℕ) (p : Piece) → IsCut from text ps place rest → tokens_at from (ps ++ p ∷ []) ≡ tokens_at from ps ++ token_at place (place + p.len) p.kind
 tokens_more from text [] place rest p cut = append-nil _ ∙ ap (λ n. token_at n (n + p.len) p.kind) cut.0
-tokens_more from text (q ∷ ps) place rest p cut = ap (λ ts. token_at from (from + q.len) q.kind ++ ts) (tokens_more (from + q.len) (drop q.len text) ps place rest p cut.1) ∙ sym (append_assoc (token_at from (from + q.len) q.kind) _ _)
+tokens_more from text (q ∷ ps) place rest p cut =
+    ap (λ ts. token_at from (from + q.len) q.kind ++ ts) (tokens_more (from + q.len) (drop q.len text) ps place rest p cut.1)
+    ∙ sym (append_assoc (token_at from (from + q.len) q.kind) _ _)
 
-spans_more : (from : ℕ) (ts : List Token) (place : ℕ) (n : ℕ) (kind : Option TokenKind) → 0 < n → AreSpans from ts place → AreSpans from (ts ++ token_at place (place + n) kind) (place + n)
-spans_more from [] place n None h s = omega arith
-spans_more from [] place n (Some kind) h s = (s, omega arith, omega arith)
-spans_more from (t ∷ ts) place n kind h s = (s.0, s.1, spans_more t.end ts place n kind h s.2)
+-- the text has been cut up to a place, and these are the tokens so far
+pub record Reaches (text : List ℕ) (tokens : List Token) (place : ℕ) (rest : List ℕ) : Type 0 where
+  pub pieces : List Piece
+  pub cut : IsCut 0 text pieces place rest
+  pub found : tokens ≡ tokens_at 0 pieces
 
--- one piece further
-pub reaches_more : (text : List ℕ) (tokens : List Token) (place : ℕ) (rest : List ℕ) (p : Piece) → Reaches text tokens place rest → front place rest ≡ Ok p → (0 < p.len) × (p.len ≤ length rest) → Reaches text (tokens ++ token_at place (place + p.len) p.kind) (place + p.len) (drop p.len rest)
-reaches_more text tokens place rest p r e size = record {
+pub reaches_more : (text : List ℕ) (tokens : List Token) (place : ℕ) (rest : List ℕ) (p : Piece) → Reaches text tokens place rest → front place rest ≡ Ok p → Reaches text (tokens ++ token_at place (place + p.len) p.kind) (place + p.len) (drop p.len rest)
+reaches_more text tokens place rest p r e = record {
   pieces = r.pieces ++ p ∷ [];
   cut = cut_more 0 text r.pieces place rest p r.cut e;
   found = ap (λ ts. ts ++ token_at place (place + p.len) p.kind) r.found ∙ sym (tokens_more 0 text r.pieces place rest p r.cut);
-  room = omega (arith, length-drop {A = ℕ}, r.room);
-  spans = spans_more 0 tokens place p.len p.kind size.0 r.spans;
 }
+
+pub reaches_room : (text : List ℕ) (tokens : List Token) (place : ℕ) (rest : List ℕ) → Reaches text tokens place rest → place + length rest ≡ length text
+reaches_room text tokens place rest r = omega (arith, cut_room 0 text r.pieces place rest r.cut)
+
+-- nothing is left
+pub reaches_end : (text : List ℕ) (tokens : List Token) (place : ℕ) (rest : List ℕ) → Reaches text tokens place rest → length rest ≡ 0 → HasTokens text (record { tokens = tokens; end = length text })
+reaches_end text tokens place rest r e =
+    let whole : place ≡ length text = omega (arith, e, reaches_room text tokens place rest r) in
+    record { pieces = r.pieces; cut = rw (← whole, ← nil_from_length rest e) r.cut; tokens = r.found }
+
+pub tokens_spans : (text : List ℕ) (found : TokenList) → HasTokens text found → AreSpans 0 found.tokens found.end
+tokens_spans text found h = rw h.tokens (cut_spans 0 text h.pieces found.end [] h.cut)
+
+pub tokens_whole : (text : List ℕ) (found : TokenList) → HasTokens text found → found.end ≡ length text
+tokens_whole text found h = omega (arith, cut_room 0 text h.pieces found.end [] h.cut)
+
+spans_le : (from : ℕ) (ts : List Token) (to : ℕ) → AreSpans from ts to → from ≤ to
+spans_le from [] to s = s
+spans_le from (t ∷ ts) to s = omega (arith, s.0, s.1, spans_le t.end ts to s.2)
+
+pub span_at : (from : ℕ) (ts : List Token) (to k : ℕ) (d : Token) → AreSpans from ts to → k < length ts → ((get_or ts k d).start < (get_or ts k d).end) × ((get_or ts k d).end ≤ to)
+span_at from [] to k d s h = absurd (omega arith)
+span_at from (t ∷ ts) to zero d s h = (s.1, spans_le t.end ts to s.2)
+span_at from (t ∷ ts) to (suc k) d s h = span_at t.end ts to k d s.2 (omega arith)

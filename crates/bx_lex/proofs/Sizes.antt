@@ -1,12 +1,10 @@
 -- What the first rule that fits takes: at least one byte, and no more than there are.
-use Rattle.std.proofs.Common.{◌≡◌, ℕ, ◌+◌, ◌<◌, ◌≤◌, Bool, true, false, cond, List, [], ◌∷◌, ◌++◌, length, drop, get_or, Option, Some, None, Result, Ok, Err, IfOk, IfSome, option_map, refl, ap, subst, arith, length-drop, length-append, codes, not, ◌==◌, ◌||◌, ◌&&◌, suc, ⊎_elim}
+use Rattle.std.proofs.Common.{◌≡◌, ℕ, ◌+◌, ◌<◌, ◌≤◌, Bool, true, List, [], ◌∷◌, length, drop, get_or, Option, Some, None, Result, Ok, Err, IfOk, IfSome, option_map, refl, ap, subst, arith, length-drop, length-append, codes, not, ◌==◌, ◌||◌, ◌&&◌, suc, ⊎_elim}
 use Rattle.std.proofs.lemmas.Bool.{false≢true, and_parts, or_cases}
 use Rattle.std.proofs.lemmas.Bool.Decides.{nat_tests}
 use Rattle.std.specs.List.{prefix_len}
 use Rattle.std.specs.Char.{is_ascii_digit, is_ascii_whitespace}
 use Rattle.std.proofs.lemmas.List.Sums.{prefix_len-le-length}
-use Rattle.std.proofs.lemmas.Slice.Eq.{starts_is}
-use Rattle.std.proofs.lemmas.Bool.Decides.{Decides-eqb}
 use Rattle.bx_lex.specs.declared.token.TokenKind.{TokenKind}
 use Rattle.bx_lex.specs.declared.token.TokenKind.TheVariants.{Word, Escaped, Number, Symbol}
 use Rattle.bx_lex.specs.declared.token.LexFault.{LexFault}
@@ -14,6 +12,7 @@ use Rattle.bx_lex.specs.declared.token.LexFault.TheVariants.{BadByte}
 use Rattle.bx_lex.specs.declared.rules.Piece.{Piece}
 use Rattle.bx_lex.specs.Bytes.{is_word_start, is_word_byte, is_shown, is_base, is_number_byte, is_symbol}
 use Rattle.bx_lex.specs.Rules.{begins, lexeme, through, ended, closed_by, base_len, number_len, escaped, front}
+use Rattle.bx_lex.proofs.Begins.{chosen, begins_is, begins_first}
 
 -- a piece of the text, or a fault
 pub record Sized (text : List ℕ) (r : Result Piece LexFault) : Type 0 where
@@ -25,18 +24,8 @@ sized text kind n h k = record { within = (h, k) }
 fault : (text : List ℕ) (f : LexFault) → Sized text (Err f)
 fault text f = record { within = tt }
 
-chosen : {X : Type 0} (P : X → Type 0) (b : Bool) (x y : X) → (b ≡ true → P x) → P y → P (cond b x y)
-chosen P true x y h k = h refl
-chosen P false x y h k = k
-
-begins_is : (start text : List ℕ) → begins start text ≡ true → text ≡ start ++ drop (length start) text
-begins_is start text e = (starts_is Decides-eqb text start _ refl).0 e
-
 begins_len : (start text : List ℕ) → begins start text ≡ true → length start ≤ length text
 begins_len start text e = omega (arith, simp length-append at (ap length (begins_is start text e)))
-
-begins_first : (b : ℕ) (bs text : List ℕ) → begins (b ∷ bs) text ≡ true → get_or text 0 0 ≡ b
-begins_first b bs text e = ap (λ s. get_or s 0 0) (begins_is (b ∷ bs) text e)
 
 run_some : (p : ℕ → Bool) (text : List ℕ) → 0 < length text → p (get_or text 0 0) ≡ true → 0 < prefix_len p text
 run_some p [] h e = h
@@ -65,7 +54,7 @@ base_at (q ∷ b ∷ rest) e = omega arith
 
 base_within : (text : List ℕ) → base_len text ≤ length text
 base_within text =
-    chosen (λ n. n ≤ length text) ((get_or text 0 0 == 39) && is_base (get_or text 1 0)) (2 + prefix_len is_number_byte (drop 2 text)) 0 (λ e. let two = base_at text (and_parts _ _ e).1 in omega (arith, length-drop {A = ℕ}, prefix_len-le-length is_number_byte (drop 2 text))) (omega arith)
+    chosen (λ n. n ≤ length text) ((get_or text 0 0 == 39) && is_base (get_or text 1 0)) (2 + prefix_len is_number_byte (drop 2 text)) 0 (λ e. let two : 2 ≤ length text = base_at text (and_parts (get_or text 0 0 == 39) (is_base (get_or text 1 0)) e).1 in omega (arith, length-drop {A = ℕ}, prefix_len-le-length is_number_byte (drop 2 text))) (omega arith)
 
 number_sized : (text : List ℕ) → 0 < length text → is_ascii_digit (get_or text 0 0) ≡ true → Sized text (Ok (lexeme Number (number_len text)))
 number_sized text h e =
@@ -109,6 +98,11 @@ front_sized place text h =
     (chosen (Sized text) (is_symbol (get_or text 0 0)) _ _ (λ e. one text (Some Symbol) h)
     (fault text (BadByte place)))))))))))
 
--- what a piece of a text is known by
-pub piece_sized : (place : ℕ) (text : List ℕ) (p : Piece) → 0 < length text → front place text ≡ Ok p → (0 < p.len) × (p.len ≤ length text)
-piece_sized place text p h e = (subst (Sized text) e (front_sized place text h)).within
+-- nothing is taken of no text
+nothing_taken : (place : ℕ) → front place [] ≡ Err (BadByte place)
+unfolding front is_symbol
+nothing_taken place = refl
+
+pub piece_taken : (place : ℕ) (text : List ℕ) (p : Piece) → front place text ≡ Ok p → (0 < p.len) × (p.len ≤ length text)
+piece_taken place [] p e = let n : front place [] ≡ Err (BadByte place) = nothing_taken place in absurd (cc)
+piece_taken place (b ∷ rest) p e = (subst (Sized (b ∷ rest)) e (front_sized place (b ∷ rest) (omega arith))).within

@@ -1,5 +1,5 @@
 -- The rules: what the first one that fits takes of a text.
-use Rattle.std.specs.Prelude.{ℕ, ◌+◌, Bool, not, ◌==◌, ◌&&◌, ◌||◌, nat_eq, if◌then◌else◌, List, [], ◌∷◌, drop, codes, length, Option, Some, None, Result, Ok, Err, slice_index}
+use Rattle.std.specs.Prelude.{◌≢◌, ◌≡◌, ◌≤◌, ◌++◌, ℕ, ◌+◌, Bool, not, ◌==◌, ◌&&◌, ◌||◌, nat_eq, if◌then◌else◌, List, [], ◌∷◌, drop, codes, length, Option, Some, None, Result, Ok, Err, slice_index}
 use Rattle.std.specs.List.{prefix_len, starts_with}
 use Rattle.std.specs.Char.{is_ascii_digit, is_ascii_whitespace}
 use Rattle.std.specs.Option.{option_map}
@@ -69,3 +69,16 @@ front place text =
     else (if begins (codes "~^") text || begins (codes "^~") text then Ok (lexeme Symbol 2)
     else (if is_symbol (slice_index text 0) then Ok (lexeme Symbol 1)
     else Err (BadByte place))))))))))
+
+-- A text is some bytes, this close and what stands behind it, and no close begins sooner.
+pub record FirstClose (close text : List ℕ) (n : ℕ) : Type 0 where
+  pub before : List ℕ
+  pub back : List ℕ
+  pub stands : text ≡ before ++ close ++ back
+  pub ends : n ≡ length before + length close
+  pub first : (earlier rest : List ℕ) → text ≡ earlier ++ close ++ rest → length before ≤ length earlier
+
+-- behind how many bytes the first close of a text ends, or that none stands in it
+abbrev pub IsFirstClose : List ℕ → List ℕ → Option ℕ → Type 0
+IsFirstClose close text None = (earlier rest : List ℕ) → text ≢ earlier ++ close ++ rest
+IsFirstClose close text (Some n) = FirstClose close text n

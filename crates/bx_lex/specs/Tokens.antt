@@ -1,6 +1,6 @@
 -- What the tokens of a text are: from its first byte on, the text is cut into pieces, each of them what
 -- the first rule that fits takes of what is left.
-use Rattle.std.specs.Prelude.{◌≡◌, ℕ, ◌+◌, ◌<◌, ◌≤◌, List, [], ◌∷◌, ◌++◌, drop, length, Option, Some, None, Ok, Err}
+use Rattle.std.specs.Prelude.{◌≡◌, ℕ, ◌+◌, ◌<◌, ◌≤◌, List, [], ◌∷◌, ◌++◌, drop, length, Option, Some, None, Result, Ok, Err}
 use Rattle.bx_lex.specs.declared.token.TokenKind.{TokenKind}
 use Rattle.bx_lex.specs.declared.token.Token.{Token}
 use Rattle.bx_lex.specs.declared.token.LexFault.{LexFault}
@@ -41,6 +41,11 @@ pub record HasFault (text : List ℕ) (fault : LexFault) : Type 0 where
   pub cut : IsCut 0 text pieces place rest
   pub goes_on : 0 < length rest
   pub stops : front place rest ≡ Err fault
+
+-- what a text reads as: its tokens, or its first fault
+abbrev pub Reads : List ℕ → Result TokenList LexFault → Type 0
+Reads text (Ok found) = HasTokens text found
+Reads text (Err fault) = HasFault text fault
 
 -- Spans in order from one place to another, none of them empty.
 abbrev pub AreSpans : ℕ → List Token → ℕ → Type 0

@@ -1,6 +1,7 @@
 //! The reader: it cuts a text into pieces, one after the other, and keeps those that are tokens.
-ghost use Rattle.std.specs.Prelude.{◌≡◌, ◌≢◌, ◌++◌, IfOk, IfErr};
-ghost use Rattle.bx_lex.specs.Tokens.{HasTokens, HasFault, token_at};
+ghost use Rattle.std.specs.Prelude.{◌≡◌, ◌≢◌, ◌++◌, length, Result, Err, IfOk, IfErr};
+ghost use Rattle.bx_lex.specs.Tokens.{TokenList, HasTokens, HasFault, Reads, token_at};
+ghost use Rattle.bx_lex.specs.declared.token.LexFault.{LexFault};
 
 use crate::rules;
 use crate::token::{LexFault, Token, TokenKind};
@@ -25,13 +26,9 @@ fn put(
     Ok(())
 }
 
-/// The tokens of a text, or its first fault.
-///
-/// # Errors
-///
-/// The first fault of the text, with its place, or `NoMemory`.
-pub fn read_tokens(alloc: Global, text: &[u8]) -> Result<Tokens, LexFault>
-    ensures found { IfOk result (λ tokens. HasTokens text.now tokens) }
+/// Cuts the text into pieces, from its first byte to its last, and keeps those that are tokens.
+fn cut(alloc: Global, text: &[u8]) -> Result<Vec<Token>, LexFault>
+    ensures found { IfOk result (λ tokens. HasTokens text.now (record { tokens = tokens.items; end = length text.now })) }
     ensures faults { IfErr result (λ fault. fault ≢ LexFault.NoMemory → HasFault text.now fault) }
 {
     let mut tokens = Vec::new(alloc);
@@ -44,5 +41,24 @@ pub fn read_tokens(alloc: Global, text: &[u8]) -> Result<Tokens, LexFault>
         place = end;
         rest = &rest[piece.len..];
     }
-    Ok(Tokens::new(tokens, place))
+    Ok(tokens)
+}
+
+/// The tokens of a text, or its first fault.
+///
+/// # Errors
+///
+/// The first fault of the text, with its place, or `NoMemory`.
+pub fn read_tokens(alloc: Global, text: &[u8]) -> Result<Tokens, LexFault>
+    // The tokens that are answered are those of the text.
+    ensures found { IfOk result (λ tokens. HasTokens text.now tokens) }
+    // The fault that is answered is the first of the text.
+    ensures faults { IfErr result (λ fault. fault ≢ LexFault.NoMemory → HasFault text.now fault) }
+    // What the text reads as is answered, unless memory runs out.
+    ensures exact { (r : Result TokenList LexFault) → Reads text.now r → result ≢ Err LexFault.NoMemory → result ≡ r }
+    // The end is the length of the text.
+    ensures whole { IfOk result (λ tokens. tokens.end ≡ length text.now) }
+{
+    let tokens = cut(alloc, text)?;
+    Ok(Tokens::new(tokens, text.len() as u64))
 }

@@ -1,6 +1,6 @@
 //! The tokens of a text as a value. That they stand in order inside the text, none of them empty, is
 //! kept in the type. Which text they are the tokens of is for the reader's contract to say.
-ghost use Rattle.std.specs.Prelude.{◌≡◌, ◌<◌, length, Some, slice_get};
+ghost use Rattle.std.specs.Prelude.{◌≡◌, ◌<◌, ◌≤◌, length, Some, slice_get};
 
 use crate::token::Token;
 use std::marker::Model;
@@ -44,6 +44,7 @@ impl Tokens {
     pub fn token(&self, k: u64) -> Token
         requires { k < length self.now.tokens }
         ensures value { slice_get self.now.tokens k ≡ Some result }
+        ensures inside { (result.start < result.end) × (result.end ≤ self.now.end) }
         ensures spans { AreSpans 0 self.now.tokens self.now.end }
     {
         self.tokens[k as usize]

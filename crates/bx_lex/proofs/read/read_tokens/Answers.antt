@@ -1,34 +1,19 @@
-use Rattle.std.proofs.Common.{◌≡◌, ◌<◌, ◌≤◌, length, Ok, sym, ◌∙◌, arith, length-drop, false-eqb}
-use Rattle.std.proofs.lemmas.List.{take_rest}
-use Rattle.bx_lex.specs.Rules.{front}
-use Rattle.bx_lex.proofs.Sizes.{piece_sized}
-use Rattle.bx_lex.proofs.Cuts.{reaches_more}
+use Rattle.std.proofs.Common.{rules, ◌≢◌, Ok, IfOk, IfErr}
+use Rattle.bx_lex.specs.declared.token.LexFault.TheVariants.{NoMemory}
+use Rattle.bx_lex.specs.Tokens.{HasTokens, HasFault}
+use Rattle.bx_lex.proofs.Cuts.{tokens_spans}
+use Rattle.bx_lex.proofs.Readings.{answered}
 use Rattle.bx_lex.proofs.read.read_tokens.Goals as goal
-use Rattle.bx_lex.proofs.read.read_tokens.Goals.{In_ok-piece}
 
--- the piece is what the first rule takes
-taken : (c : goal.In_ok-piece) → front c.loop-rest.place c.loop-rest.rest.now ≡ Ok c.in_ok-piece.piece
-taken c = sym c.front_of.ensures ∙ c.in_ok-piece.was
+pub returns-in_err-tokens-clause-exact : goal.returns-in_err-tokens-clause-exact
+returns-in_err-tokens-clause-exact c = λ r reads given.
+    let found : IfOk c.from_residual.result (λ found. HasTokens c.args.text.now found) = search rules in
+    let faults : IfErr c.from_residual.result (λ fault. fault ≢ NoMemory → HasFault c.args.text.now fault) = search rules in
+    answered c.args.text.now c.from_residual.result r found faults reads given
 
--- it is a piece of what is left
-size : (c : goal.In_ok-piece) → (0 < c.in_ok-piece.piece.len) × (c.in_ok-piece.piece.len ≤ length c.loop-rest.rest.now)
-size c = piece_sized c.loop-rest.place c.loop-rest.rest.now c.in_ok-piece.piece (omega (arith, false-eqb _ 0 c.loop-rest-test.ensures)) (taken c)
+pub new-requires : goal.new-requires
+new-requires c = tokens_spans c.args.text.now _ c.in_ok-tokens.ensures.found
 
-pub overflow_add-end : goal.overflow_add-end
-overflow_add-end c = omega (arith, (size c).1, c.loop-rest.invariant.room)
-
-pub slice_bounds-rest-count : goal.slice_bounds-rest-count
-slice_bounds-rest-count c = (size (goal.at.slice_bounds-rest-count c).In_ok-piece).1
-
-pub slice_bounds-rest-start : goal.slice_bounds-rest-start
-slice_bounds-rest-start c = (size (goal.at.slice_bounds-rest-start c).In_ok-piece).1
-
-pub loop-rest-smaller : goal.loop-rest-smaller
-loop-rest-smaller c =
-    let s = size (goal.at.loop-rest-smaller c).In_ok-piece in
-    rw (take_rest c.loop-rest.rest.now c.in_ok-piece.piece.len, length-drop c.in_ok-piece.piece.len c.loop-rest.rest.now) (omega (arith, s.0, s.1))
-
-pub loop-rest-preserved : goal.loop-rest-preserved
-loop-rest-preserved c =
-    let q = (goal.at.loop-rest-preserved c).In_ok-piece in
-    rw (c.in_ok-put.ensures.put, take_rest c.loop-rest.rest.now c.in_ok-piece.piece.len) (reaches_more _ _ _ _ c.in_ok-piece.piece c.loop-rest.invariant (taken q) (size q))
+pub returns-clause-exact : goal.returns-clause-exact
+returns-clause-exact c = λ r reads given.
+    answered c.args.text.now (Ok c.new.result) r (rw c.new.ensures c.in_ok-tokens.ensures.found) tt reads given

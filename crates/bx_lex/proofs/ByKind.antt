@@ -1,0 +1,102 @@
+-- What the first rule that fits takes is of its kind, and a fault is what it says.
+use Rattle.std.proofs.Common.{cond, not, false, [], ◌∷◌, ◌≡◌, ℕ, ◌+◌, ◌-◌, Bool, true, List, drop, get_or, Option, Some, None, Result, Ok, Err, IfOk, IfErr, refl, ap, subst, arith, codes, ◌==◌, ◌||◌, inl, inr}
+use Rattle.std.specs.Prelude.{All}
+use Rattle.std.specs.List.{prefix_len}
+use Rattle.std.specs.Char.{is_ascii_digit, is_ascii_whitespace}
+use Rattle.std.proofs.lemmas.Bool.{or_cases, eqb-true, eqb-false}
+use Rattle.std.proofs.lemmas.List.Sums.{prefix_len-le-length, prefix_len_passes, prefix_len_stops}
+use Rattle.std.proofs.lemmas.List.Elements.{All-weaker}
+use Rattle.bx_lex.specs.declared.token.TokenKind.TheVariants.{Word, Escaped, Number, Symbol}
+use Rattle.bx_lex.specs.declared.token.LexFault.{LexFault}
+use Rattle.bx_lex.specs.declared.token.LexFault.TheVariants.{BadByte, OpenComment, OpenAttribute, NoMemory}
+use Rattle.bx_lex.specs.declared.rules.Piece.{Piece}
+use Rattle.bx_lex.specs.Bytes.{is_word_start, is_word_byte, is_shown, is_symbol}
+use Rattle.bx_lex.specs.Rules.{begins, line_len, gap, lexeme, through, ended, closed_by, number_len, escaped, front, FirstClose, IsFirstClose}
+use Rattle.bx_lex.specs.Kinds.{IsLongestRun, IsTokenOf, IsGap, IsOfKind, IsFaultAt}
+use Rattle.bx_lex.specs.Tokens.{TokenList, HasTokens, HasFault}
+use Rattle.bx_lex.proofs.Begins.{either, chosen, begins_first}
+use Rattle.bx_lex.proofs.Closes.{first_close}
+use Rattle.bx_lex.proofs.Places.{tokens_taken}
+
+record Known (place : ℕ) (text : List ℕ) (r : Result Piece LexFault) : Type 0 where
+  pub kind : IfOk r (λ p. IsOfKind p.kind text p.len)
+  pub fault : IfErr r (λ f. IsFaultAt place text f)
+
+known : (place : ℕ) (text : List ℕ) (p : Piece) → IsOfKind p.kind text p.len → Known place text (Ok p)
+known place text p h = record { kind = h; fault = tt }
+
+fault : (place : ℕ) (text : List ℕ) (f : LexFault) → IsFaultAt place text f → Known place text (Err f)
+fault place text f h = record { kind = tt; fault = h }
+
+run_is : (test : ℕ → Bool) (text : List ℕ) → IsLongestRun test text (prefix_len test text)
+run_is test text = record {
+  inside = prefix_len-le-length test text;
+  pass = λ k h. prefix_len_passes test text k 0 h;
+  behind = λ h. prefix_len_stops test text 0 h;
+}
+
+not_counted : (b : Bool) (n : ℕ) → cond b (1 + n) 0 ≡ 0 → b ≡ false
+not_counted true n e = absurd (omega (arith, e))
+not_counted false n e = refl
+
+no_run : (test : ℕ → Bool) (text : List ℕ) → test 0 ≡ false → prefix_len test text ≡ 0 → test (get_or text 0 0) ≡ false
+no_run test [] h e = h
+no_run test (b ∷ rest) h e = not_counted (test b) (prefix_len test rest) e
+
+ended_known : (place : ℕ) (text close : List ℕ) (f : LexFault) (found : Option ℕ) → (IsFirstClose close (drop 2 text) None → IsFaultAt place text f) → ((n : ℕ) → FirstClose close (drop 2 text) n → IsGap text (2 + n)) → IsFirstClose close (drop 2 text) found → Known place text (ended f found)
+ended_known place text close f None opens closes h = fault place text f (opens h)
+ended_known place text close f (Some n) opens closes h = known place text (gap (2 + n)) (closes n h)
+
+comment_known : (place : ℕ) (text : List ℕ) → begins (codes "/*") text ≡ true → Known place text (closed_by (codes "*/") (OpenComment place) text)
+comment_known place text e =
+    ended_known place text (codes "*/") (OpenComment place) (through (codes "*/") (drop 2 text)) (λ h. (refl, (e, h))) (λ n h. inr (inr (inl (e, (n, refl, h))))) (first_close (codes "*/") (drop 2 text) (omega arith))
+
+attribute_known : (place : ℕ) (text : List ℕ) → begins (codes "(*") text ≡ true → Known place text (closed_by (codes "*)") (OpenAttribute place) text)
+attribute_known place text e =
+    ended_known place text (codes "*)") (OpenAttribute place) (through (codes "*)") (drop 2 text)) (λ h. (refl, (e, h))) (λ n h. inr (inr (inr (e, (n, refl, h))))) (first_close (codes "*)") (drop 2 text) (omega arith))
+
+escaped_known : (place : ℕ) (text : List ℕ) → get_or text 0 0 ≡ 92 → Known place text (escaped place text)
+escaped_known place text h =
+    let run = prefix_len is_shown (drop 1 text) in
+    either (Known place text) (run == 0) _ _ (λ e. fault place text (BadByte place) (refl, inl (h, no_run is_shown (drop 1 text) refl (eqb-true run 0 e))))
+    (λ e. let some : ¬ (run ≡ 0) = eqb-false run 0 e in
+    let same : run ≡ 1 + run - 1 = omega arith in
+    known place text (lexeme Escaped (1 + run)) (h, omega (arith, some), subst (IsLongestRun is_shown (drop 1 text)) same (run_is is_shown (drop 1 text))))
+
+opening_is_symbol : (text : List ℕ) → begins (codes "(*)") text ≡ true → is_symbol (get_or text 0 0) ≡ true
+unfolding is_symbol
+opening_is_symbol text e = ap is_symbol (begins_first 40 (codes "*)") text e)
+
+symbol : (place : ℕ) (text : List ℕ) → is_symbol (get_or text 0 0) ≡ true → Known place text (Ok (lexeme Symbol 1))
+symbol place text e = known place text (lexeme Symbol 1) (inl (refl, e))
+
+front_known : (place : ℕ) (text : List ℕ) → Known place text (front place text)
+unfolding front
+front_known place text =
+    let P = Known place text in
+    either P (is_ascii_whitespace (get_or text 0 0)) _ _ (λ e. known place text (gap 1) (inl (refl, e)))
+    (λ white. chosen P (begins (codes "//") text) _ _ (λ e. known place text (gap (line_len text)) (inr (inl (e, run_is (λ b. not (b == 10)) text))))
+    (chosen P (begins (codes "/*") text) _ _ (λ e. comment_known place text e)
+    (chosen P (begins (codes "(*)") text) _ _ (λ e. symbol place text (opening_is_symbol text e))
+    (chosen P (begins (codes "(*") text) _ _ (λ e. attribute_known place text e)
+    (either P (is_word_start (get_or text 0 0)) _ _ (λ e. known place text (lexeme Word (prefix_len is_word_byte text)) (e, run_is is_word_byte text))
+    (λ word. chosen P (get_or text 0 0 == 92) _ _ (λ e. escaped_known place text (eqb-true _ 92 e))
+    (either P (is_ascii_digit (get_or text 0 0)) _ _ (λ e. known place text (lexeme Number (number_len text)) (e, refl))
+    (λ digit. chosen P (begins (codes "~^") text || begins (codes "^~") text) _ _ (λ e. known place text (lexeme Symbol 2) (inr (refl, or_cases _ _ e)))
+    (either P (is_symbol (get_or text 0 0)) _ _ (λ e. symbol place text e)
+    (λ other. fault place text (BadByte place) (refl, inr (white, word, digit, other))))))))))))
+
+pub taken_of_kind : (place : ℕ) (text : List ℕ) (p : Piece) → front place text ≡ Ok p → IsOfKind p.kind text p.len
+taken_of_kind place text p e = (subst (Known place text) e (front_known place text)).kind
+
+pub fault_at : (place : ℕ) (text : List ℕ) (f : LexFault) → front place text ≡ Err f → IsFaultAt place text f
+fault_at place text f e = (subst (Known place text) e (front_known place text)).fault
+
+pub tokens_of_kind : (text : List ℕ) (found : TokenList) → HasTokens text found → All (λ t. IsTokenOf t.kind (drop t.start text) (t.end - t.start)) found.tokens
+tokens_of_kind text found h =
+    All-weaker (λ t. front t.start (drop t.start text) ≡ Ok (lexeme t.kind (t.end - t.start))) (λ t. IsTokenOf t.kind (drop t.start text) (t.end - t.start))
+    (λ t e. taken_of_kind t.start (drop t.start text) (lexeme t.kind (t.end - t.start)) e)
+    found.tokens (tokens_taken text found h)
+
+pub faults_given : (text : List ℕ) → HasFault text NoMemory → ⊥
+faults_given text h = fault_at h.place h.rest NoMemory h.stops

@@ -1,0 +1,47 @@
+//! Laws about the definitions: a text reads in one way, its tokens stand in order and each by the
+//! first rule, and the first close ends a comment. Nothing here runs.
+ghost use Rattle.std.specs.Prelude.{◌≡◌, ◌-◌, ◌<◌, ℕ, List, length, drop, Result, All};
+ghost use Rattle.bx_lex.specs.declared.token.LexFault.{LexFault};
+ghost use Rattle.bx_lex.specs.declared.rules.Piece.{Piece};
+ghost use Rattle.bx_lex.specs.Rules.{front, lexeme, through, IsFirstClose};
+ghost use Rattle.bx_lex.specs.Kinds.{IsTokenOf, IsOfKind, IsFaultAt};
+ghost use Rattle.bx_lex.specs.Tokens.{TokenList, HasTokens, HasFault, Reads, AreSpans};
+
+/// A text has tokens or a fault, never both, and one list of tokens or one fault.
+pub fn a_text_has_one_reading()
+    ensures some { (text : List ℕ) → (r : Result TokenList LexFault) × Reads text r }
+    ensures one { (text : List ℕ) (r s : Result TokenList LexFault) → Reads text r → Reads text s → r ≡ s }
+{}
+
+/// Want of memory is no fault of a text.
+pub fn want_of_memory_is_no_fault()
+    ensures { (text : List ℕ) → HasFault text LexFault.NoMemory → ⊥ }
+{}
+
+/// The tokens of a text stand in order inside it, and none is empty.
+pub fn tokens_stand_in_order()
+    ensures spans { (text : List ℕ) (found : TokenList) → HasTokens text found → AreSpans 0 found.tokens found.end }
+    ensures whole { (text : List ℕ) (found : TokenList) → HasTokens text found → found.end ≡ length text }
+{}
+
+/// Each token is what the first rule that fits takes where the token stands.
+pub fn a_token_is_taken_by_the_first_rule()
+    ensures { (text : List ℕ) (found : TokenList) → HasTokens text found → All (λ t. front t.start (drop t.start text) ≡ Ok (lexeme t.kind (t.end - t.start))) found.tokens }
+{}
+
+/// A word and an escaped word are runs that can't be longer, and each other token is one of its kind.
+pub fn a_token_is_one_of_its_kind()
+    ensures { (text : List ℕ) (found : TokenList) → HasTokens text found → All (λ t. IsTokenOf t.kind (drop t.start text) (t.end - t.start)) found.tokens }
+{}
+
+/// What the first rule that fits takes is what its kind says, and where no rule takes anything, the
+/// fault is what it says, at this very place.
+pub fn a_piece_is_what_its_kind_says()
+    ensures taken { (place : ℕ) (text : List ℕ) (p : Piece) → front place text ≡ Ok p → IsOfKind p.kind text p.len }
+    ensures refused { (place : ℕ) (text : List ℕ) (fault : LexFault) → front place text ≡ Err fault → IsFaultAt place text fault }
+{}
+
+/// A comment or an attribute ends behind the first close, and is open where there is none.
+pub fn the_first_close_ends_a_comment()
+    ensures { (close text : List ℕ) → 0 < length close → IsFirstClose close text (through close text) }
+{}

@@ -5,3 +5,6 @@ pub mod Ports
 pub mod Ends
 pub mod Whole
 pub mod ReadsExpressions
+pub mod Repeats
+pub mod ReadsModules
+pub mod Mapped

@@ -1,5 +1,6 @@
 -- What reads an expression reads each that the grammar has, and nothing else.
-use Rattle.std.proofs.Common.{◌≡◌, get_or, Vec, Global, Result, ℕ, zero, suc, ◌+◌, ◌<◌, ◌≤◌, max, nat_eq, cond, true, false, List, [], ◌∷◌, ◌++◌, drop, length, length-append, length-drop, append_assoc, Option, Some, None, refl, sym, ap, subst, ◌∙◌, ◌⊎◌, inl, inr, arith, eq-eqb}
+use Rattle.std.proofs.lemmas.Bool.{eqb-false}
+use Rattle.std.proofs.Common.{◌≡◌, vec_len, ◌==◌, get_or, Vec, Global, Result, ℕ, zero, suc, ◌+◌, ◌<◌, ◌≤◌, max, nat_eq, cond, true, false, List, [], ◌∷◌, ◌++◌, drop, length, length-append, length-drop, append_assoc, Option, Some, None, refl, sym, ap, subst, ◌∙◌, ◌⊎◌, inl, inr, arith, eq-eqb}
 use Rattle.std.proofs.lemmas.Grind.{common_steps}
 use Rattle.std.proofs.lemmas.Bool.Decides.{eqb_tells}
 use Rattle.std.proofs.Common.{⊎_elim}
@@ -12,7 +13,7 @@ use Rattle.bx_verilog.specs.declared.tree.Operator.TheVariants.{And, Xor, Xnor, 
 use Rattle.bx_verilog.specs.declared.tree.Expr.{Expr, Row_of-Operand, end_of-Operand, more_of-Operand, items-the_row-Operand, items_hidden-the_row-Operand-0}
 use Rattle.bx_verilog.specs.declared.tree.Expr.TheBlock.{hidden-the_row-Operand-0}
 use Rattle.bx_verilog.specs.declared.tree.Operand.{Operand}
-use Rattle.bx_verilog.specs.Trees.{Tree, net, bit, inverse, group, joined, Tail, done, link, started, tree, tail, row_tail}
+use Rattle.bx_verilog.specs.Trees.{Tree, net, bit, inverse, group, joined, Tail, done, link, started, levelled, tree, tail, row_tail}
 use Rattle.bx_verilog.specs.Expressions.{rank, IsAt, AreAt, sign, spelling, tail_spelling, nesting, tail_nesting}
 use Rattle.bx_verilog.specs.ReadsExpressions.{Reader, ◌>>=◌, nothing, operator_of, of_rank, operator_at, linked, tail_within, tail_at, joined_at, level_at, number, behind, inverse_with, group_with, nested_with, primary_with, primary_at, expr_at, inverse_at, group_at}
 use Rattle.bx_logic.specs.declared.op.Op.{Op}
@@ -161,7 +162,7 @@ pub record FoundTail (d k : ℕ) (ts : List Terminal) (t : Tail) (rest : List Te
   pub level : AreAt k t
   pub nested : tail_nesting t ≤ d
 
-abbrev Finds : ℕ → ℕ → Reader Tree → Type 0
+abbrev pub Finds : ℕ → ℕ → Reader Tree → Type 0
 Finds d k p = (ts : List Terminal) (x : Tree × List Terminal) → p ts ≡ Some x → Found d k ts x.0 x.1
 
 pub bind_some : {A B : Type 0} {o : Option A} {f : A → Option B} {y : B} → (o >>= f) ≡ Some y → (x : A) × (o ≡ Some x) × (f x ≡ Some y)
@@ -536,5 +537,13 @@ pub primary_neither : (d : ℕ) (t : Terminal) (ts : List Terminal) → ((op : O
 primary_neither d t ts (inl (op, e)) = rw e (primary_gate d op ts)
 primary_neither d t ts (inr e) = rw e (primary_other d ts)
 
-pub joined_tree : (e first : Expr) (v : Vec Operand Global) → e ≡ first → started (tree e) (row_tail (hidden-the_row-Operand-0 v)) ≡ started (tree first) (tail v.items)
-joined_tree e first v h = ap (λ f. started (tree f) (row_tail (hidden-the_row-Operand-0 v))) h ∙ ap (started (tree first)) (row_tail-vec v)
+levelled_is : (t : Tree) (os : List Operand) → 0 < length os → levelled t (tail os) ≡ started t (tail os)
+levelled_is t [] h = absurd (omega arith)
+levelled_is t (o ∷ os) h = refl
+
+pub joined_tree : (e first : Expr) (v : Vec Operand Global) → 0 < length v.items → e ≡ first → levelled (tree e) (row_tail (hidden-the_row-Operand-0 v)) ≡ started (tree first) (tail v.items)
+joined_tree e first v l h =
+    ap (λ f. levelled (tree f) (row_tail (hidden-the_row-Operand-0 v))) h ∙ (ap (levelled (tree first)) (row_tail-vec v) ∙ levelled_is (tree first) v.items l)
+
+pub some_operands : (v : Vec Operand Global) → (vec_len v == 0) ≡ false → 0 < length v.items
+some_operands v e = let h = eqb-false (vec_len v) 0 e in omega (arith, h, v.ok.0)

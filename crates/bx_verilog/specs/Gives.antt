@@ -18,3 +18,8 @@ Gives view rest (Err e) read = Fails e read
 abbrev pub GivesRest : {X : Type 0} → List Terminal → Result X Stop → Option (List Terminal) → Type 0
 GivesRest rest (Ok x) read = read ≡ Some rest
 GivesRest rest (Err e) read = Fails e read
+
+-- The same, where reading keeps something besides.
+abbrev pub GivesSome : {X Y S : Type 0} → (X → Y) → List Terminal → Result X Stop → Option ((Y × S) × List Terminal) → Type 0
+GivesSome {S = S} view rest (Ok x) read = (s : S) × (read ≡ Some ((view x, s), rest))
+GivesSome view rest (Err e) read = Fails e read

@@ -9,3 +9,8 @@ pub mod Trees
 pub mod Expressions
 pub mod ReadsExpressions
 pub mod Gives
+pub mod Parts
+pub mod Repeats
+pub mod ReadsModules
+pub mod Grammar
+pub mod Terminals

@@ -2,6 +2,7 @@
 ghost use Rattle.std.specs.Prelude.{◌≡◌, ◌∷◌, IfOk, IfErr};
 ghost use Rattle.bx_verilog.specs.Trees.{tree, tail, started};
 ghost use Rattle.bx_verilog.specs.ReadsExpressions.{primary_at, level_at, tail_at, joined_at, inverse_at, group_at};
+ghost use Rattle.bx_verilog.specs.ReadsModules.{expression};
 ghost use Rattle.bx_verilog.specs.Gives.{Gives};
 
 use crate::lookahead::{expect, operator_at, take};
@@ -142,7 +143,7 @@ fn chain(
 
 /// An operand of a level in which nothing nests deeper.
 #[cycle(expressions)]
-pub fn level(
+fn level(
     alloc: Global,
     terminals: &mut VecDeque<Terminal>,
     level_number: u8,
@@ -154,4 +155,15 @@ pub fn level(
         None => primary(alloc, terminals, depth),
         Some(below) => chain(alloc, terminals, below, depth),
     }
+}
+
+/// How deep `~` and `(` may nest.
+pub const DEEPEST: u32 = 256;
+
+/// An expression.
+#[tactic(auto, unfolding(crate::specs::ReadsModules::expression))]
+pub fn expression(alloc: Global, terminals: &mut VecDeque<Terminal>) -> Result<Expr, Stop>
+    ensures { Gives tree terminals.new.items result (expression DEEPEST terminals.old.items) }
+{
+    level(alloc, terminals, EXPRESSION, DEEPEST)
 }

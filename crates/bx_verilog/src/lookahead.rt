@@ -2,11 +2,13 @@
 ghost use Rattle.std.specs.Prelude.{◌≡◌, [], ◌∷◌, drop, IfSome, IfNone};
 ghost use Rattle.bx_verilog.specs.ReadsExpressions.{behind, operator_of, operator_at};
 ghost use Rattle.bx_verilog.specs.Expressions.{rank};
-ghost use Rattle.bx_verilog.specs.Gives.{GivesRest};
+ghost use Rattle.bx_verilog.specs.Gives.{Gives, GivesRest};
+ghost use Rattle.bx_verilog.specs.ReadsModules.{next_is, past, past_name, name_at};
 
 use crate::stop::{Stop, Wanted};
 use crate::terminal::{Mark, Terminal};
 use crate::tree::Operator;
+use bx_logic::Name;
 use std::collections::VecDeque;
 
 /// Takes the terminal at the front.
@@ -25,6 +27,42 @@ pub fn expect(terminals: &mut VecDeque<Terminal>, mark: Mark) -> Result<(), Stop
     let left = terminals.len();
     match terminals.pop_front() {
         Some(Terminal::Mark(found)) if found == mark => Ok(()),
+        _ => Err(Stop::Bad(left, Wanted::Other)),
+    }
+}
+
+/// Whether a mark stands at the front.
+pub fn next_is(terminals: &VecDeque<Terminal>, mark: Mark) -> bool
+    ensures { result ≡ next_is mark terminals.now.items }
+{
+    matches!(terminals.front(), Some(Terminal::Mark(found)) if *found == mark)
+}
+
+/// Takes a mark from the front, if it stands there.
+pub fn skip(terminals: &mut VecDeque<Terminal>, mark: Mark)
+    ensures { terminals.new.items ≡ past mark terminals.old.items }
+{
+    if next_is(terminals, mark) {
+        take(terminals);
+    }
+}
+
+/// Takes a name from the front, if one stands there.
+pub fn skip_name(terminals: &mut VecDeque<Terminal>)
+    ensures { terminals.new.items ≡ past_name terminals.old.items }
+{
+    if let Some(Terminal::Name(_)) = terminals.front() {
+        take(terminals);
+    }
+}
+
+/// Takes a name from the front.
+pub fn name(terminals: &mut VecDeque<Terminal>) -> Result<Name, Stop>
+    ensures { Gives (λ n. n) terminals.new.items result (name_at terminals.old.items) }
+{
+    let left = terminals.len();
+    match terminals.pop_front() {
+        Some(Terminal::Name(name)) => Ok(name),
         _ => Err(Stop::Bad(left, Wanted::Other)),
     }
 }

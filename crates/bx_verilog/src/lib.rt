@@ -29,4 +29,6 @@ pub use fault::{ChainFault, Construct, ReadFault};
 pub use read::read_module;
 
 #[cfg(test)]
+mod read_tests;
+#[cfg(test)]
 mod tests;

@@ -1,6 +1,6 @@
 -- What reads an expression reads each that the grammar has, and nothing else.
 use Rattle.std.proofs.lemmas.Bool.{eqb-false}
-use Rattle.std.proofs.Common.{◌≡◌, vec_len, ◌==◌, get_or, Vec, Global, Result, ℕ, zero, suc, ◌+◌, ◌<◌, ◌≤◌, max, nat_eq, cond, true, false, List, [], ◌∷◌, ◌++◌, drop, length, length-append, length-drop, append_assoc, Option, Some, None, refl, sym, ap, subst, ◌∙◌, ◌⊎◌, inl, inr, arith, eq-eqb}
+use Rattle.std.proofs.Common.{◌≡◌, vec_len, ◌==◌, get_or, Vec, Global, Result, ℕ, zero, suc, ◌<◌, ◌≤◌, false, List, [], ◌∷◌, ◌++◌, drop, length, length-append, length-drop, append_assoc, Option, Some, None, refl, sym, ap, subst, ◌∙◌, ◌⊎◌, inl, inr, arith, eq-eqb}
 use Rattle.std.proofs.lemmas.Grind.{common_steps}
 use Rattle.std.proofs.lemmas.Bool.Decides.{eqb_tells}
 use Rattle.std.proofs.Common.{⊎_elim}

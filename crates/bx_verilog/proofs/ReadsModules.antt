@@ -1,8 +1,7 @@
 -- What reads a module reads each that the grammar has, and nothing else.
-use Rattle.std.proofs.Common.{◌≡◌, ◌≢◌, ℕ, zero, suc, ◌+◌, ◌<◌, ◌≤◌, Bool, true, false, not, ◌&&◌, cond, List, [], ◌∷◌, ◌++◌, drop, length, length-append, append_assoc, Option, Some, None, refl, sym, ap, subst, ◌∙◌, ◌⊎◌, inl, inr, ⊎_elim, arith}
+use Rattle.std.proofs.Common.{◌≡◌, ◌≢◌, ℕ, zero, suc, ◌+◌, ◌<◌, ◌≤◌, Bool, true, false, ◌&&◌, cond, List, [], ◌∷◌, length, length-append, Option, Some, None, refl, sym, ap, subst, ◌∙◌, ◌⊎◌, inl, inr, ⊎_elim, arith}
 use Rattle.std.specs.Option.{is_some}
 use Rattle.std.specs.Prelude.{IsSome, Result, Ok, Err, IfOk, MatchResult}
-use Rattle.std.proofs.lemmas.Grind.{common_steps}
 use Rattle.bx_logic.specs.declared.op.Op.{Op}
 use Rattle.bx_logic.specs.declared.op.Op.TheVariants.{Buf, Not, And, Or, Nand, Nor, Xor, Xnor}
 use Rattle.bx_verilog.specs.declared.terminal.Terminal.{Terminal}
@@ -21,12 +20,12 @@ use Rattle.bx_verilog.specs.declared.stop.Stop.{Stop}
 use Rattle.bx_verilog.specs.declared.stop.Stop.TheVariants.{Bad, Deep, NoMemory}
 use Rattle.bx_verilog.specs.Gives.{Gives}
 use Rattle.bx_verilog.specs.Parts.{PartTree, declaration, wire, assign, gate, copies, ModuleTree, module_tree}
-use Rattle.bx_verilog.specs.Expressions.{IsAt, spelling, nesting}
+use Rattle.bx_verilog.specs.Expressions.{spelling}
 use Rattle.bx_verilog.specs.ReadsExpressions.{Reader, ◌>>=◌, behind, expr_at}
 use Rattle.bx_verilog.specs.Repeats.{repeat_within, repeated, ahead_of}
-use Rattle.bx_verilog.specs.ReadsModules.{next_is, name_at, past, past_name, comma_next, comma_step, listed_at, is_net, net_name, comma_behind_net, kind_of, past_wire, kind_at, item_next, directed, direction_of, port_at, comma_port, port_next, ports_at, header_at, at_end, expression, wire_at, assign_at, many_at, name_and_expression, few_at, connections_at, gate_at, part_at, item_at, one_item, module_at}
-use Rattle.bx_verilog.specs.Grammar.{Between, Is, IsOptional, IsName, IsLabel, AreMore, AreListed, word, IsDirection, IsExpr, IsWire, IsMany, IsFew, IsGate, IsPart, IsHead, IsItem, AreItems, IsPlain, IsDirected, ArePortsBehind, ArePorts, IsHeader, IsModule}
-use Rattle.bx_verilog.proofs.ReadsExpressions.{bind_some, some_is, behind_is, behind_mark, Finds, Found, finds, again, shrinks, Ends}
+use Rattle.bx_verilog.specs.ReadsModules.{next_is, name_at, past, past_name, comma_next, comma_step, listed_at, is_net, net_name, comma_behind_net, past_wire, kind_at, item_next, directed, direction_of, port_at, comma_port, port_next, ports_at, header_at, at_end, expression, wire_at, assign_at, many_at, name_and_expression, few_at, connections_at, gate_at, part_at, item_at, one_item, module_at}
+use Rattle.bx_verilog.specs.Grammar.{Between, Is, IsOptional, IsName, IsLabel, AreMore, AreListed, word, IsExpr, IsWire, IsGate, IsPart, IsHead, IsItem, AreItems, IsPlain, IsDirected, ArePortsBehind, ArePorts, IsHeader, IsModule}
+use Rattle.bx_verilog.proofs.ReadsExpressions.{bind_some, some_is, behind_is, behind_mark, finds, again, Ends}
 use Rattle.bx_verilog.proofs.Repeats.{Repeats, ahead_is, repeated_step, repeated_stops}
 
 -- What a reader reads stands there.

@@ -1,6 +1,5 @@
 -- One thing after the other: what a loop over them keeps.
-use Rattle.std.proofs.Common.{◌≡◌, ℕ, zero, suc, ◌+◌, ◌<◌, ◌≤◌, Bool, true, false, cond, List, [], ◌∷◌, ◌++◌, drop, length, length-append, append_assoc, Option, Some, None, refl, sym, ap, subst, ◌∙◌, arith}
-use Rattle.std.proofs.lemmas.Grind.{common_steps}
+use Rattle.std.proofs.Common.{◌≡◌, ℕ, zero, suc, ◌<◌, ◌≤◌, Bool, true, false, List, [], ◌∷◌, ◌++◌, length, append_assoc, Option, Some, None, refl, sym, ap, ◌∙◌, arith}
 use Rattle.bx_verilog.specs.declared.terminal.Terminal.{Terminal}
 use Rattle.bx_verilog.specs.ReadsExpressions.{Reader, ◌>>=◌}
 use Rattle.bx_verilog.proofs.ReadsExpressions.{some_is}

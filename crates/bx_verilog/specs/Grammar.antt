@@ -4,7 +4,7 @@
 -- nest deeper than the limit.
 use Rattle.std.specs.Prelude.{◌≡◌, ◌≢◌, ℕ, ◌≤◌, ◌⊎◌, List, [], ◌∷◌, ◌++◌, Option, Some, None, IsSome}
 use Rattle.bx_logic.specs.declared.op.Op.{Op}
-use Rattle.bx_logic.specs.declared.op.Op.TheVariants.{Buf, Not, And, Or, Nand, Nor, Xor, Xnor}
+use Rattle.bx_logic.specs.declared.op.Op.TheVariants.{Buf, Not}
 use Rattle.bx_verilog.specs.declared.terminal.Terminal.{Terminal}
 use Rattle.bx_verilog.specs.declared.terminal.Terminal.TheVariants.{Mark, Gate as GateWord, Name}
 use Rattle.bx_verilog.specs.declared.terminal.Mark.TheVariants.{Module as ModuleWord, EndModule, Input as InputWord, Output as OutputWord, Wire as WireWord, Assign as AssignWord, Open, Close, Comma, Semicolon, Equals}

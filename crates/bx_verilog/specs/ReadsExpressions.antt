@@ -1,12 +1,12 @@
 -- Reading an expression at the front of a list of terminals.
-use Rattle.std.specs.Prelude.{◌≡◌, ℕ, zero, suc, ◌+◌, ◌<◌, nat_eq, if◌then◌else◌, List, [], ◌∷◌, ◌++◌, drop, length, Option, Some, None}
+use Rattle.std.specs.Prelude.{ℕ, zero, suc, nat_eq, if◌then◌else◌, List, ◌∷◌, drop, length, Option, Some, None}
 use Rattle.bx_verilog.specs.declared.terminal.Terminal.{Terminal}
-use Rattle.bx_verilog.specs.declared.terminal.Terminal.TheVariants.{Mark, Gate, Name, Bit, Other}
+use Rattle.bx_verilog.specs.declared.terminal.Terminal.TheVariants.{Mark, Name, Bit}
 use Rattle.bx_verilog.specs.declared.terminal.Mark.{Mark as Sign}
 use Rattle.bx_verilog.specs.declared.terminal.Mark.TheVariants.{Module, EndModule, Input, Output, Wire, Assign, Open, Close, Comma, Semicolon, Equals, Tilde, Ampersand, Caret, TildeCaret, Bar}
 use Rattle.bx_verilog.specs.declared.tree.Operator.{Operator}
 use Rattle.bx_verilog.specs.declared.tree.Operator.TheVariants.{And, Xor, Xnor, Or}
-use Rattle.bx_verilog.specs.Trees.{Tree, net, bit, inverse, group, joined, Tail, done, link, started}
+use Rattle.bx_verilog.specs.Trees.{Tree, net, bit, inverse, group, Tail, done, link, started}
 use Rattle.bx_verilog.specs.Expressions.{rank}
 
 -- what stands at the front of a list of terminals, and the terminals behind it, or nothing

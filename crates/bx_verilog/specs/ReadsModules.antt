@@ -1,5 +1,5 @@
 -- Reading a module, from its first terminal to its last.
-use Rattle.std.specs.Prelude.{◌≡◌, ℕ, Bool, true, false, not, ◌&&◌, if◌then◌else◌, List, [], ◌∷◌, Option, Some, None}
+use Rattle.std.specs.Prelude.{ℕ, Bool, true, false, not, ◌&&◌, if◌then◌else◌, List, [], ◌∷◌, Option, Some, None}
 use Rattle.std.specs.Option.{is_some}
 use Rattle.bx_logic.specs.declared.op.Op.{Op}
 use Rattle.bx_logic.specs.declared.op.Op.TheVariants.{Buf, Not}
@@ -12,7 +12,7 @@ use Rattle.bx_verilog.specs.declared.tree.Direction.TheVariants.{Input, Output}
 use Rattle.bx_verilog.specs.declared.tree.Port.{Port}
 use Rattle.bx_verilog.specs.declared.part.Kind.{Kind}
 use Rattle.bx_verilog.specs.declared.part.Kind.TheVariants.{Declaration, Wire, Assign, Gate}
-use Rattle.bx_verilog.specs.Trees.{Tree, net, bit, inverse, group, joined}
+use Rattle.bx_verilog.specs.Trees.{Tree, net}
 use Rattle.bx_verilog.specs.Parts.{PartTree, declaration, wire, assign, gate, copies, ModuleTree}
 use Rattle.bx_verilog.specs.ReadsExpressions.{Reader, ◌>>=◌, behind, expr_at}
 use Rattle.bx_verilog.specs.Repeats.{repeated, ahead_of}

@@ -1,6 +1,5 @@
 -- The terminals of a text: what each of its tokens is to the grammar.
-use Rattle.std.specs.Prelude.{ℕ, Bool, true, false, ◌==◌, ◌&&◌, ◌||◌, if◌then◌else◌, List, [], ◌∷◌, drop, map, position, codes, Option, Some, None, slice_get, slice_range}
-use Rattle.std.specs.List.{list_any}
+use Rattle.std.specs.Prelude.{ℕ, true, false, ◌==◌, ◌&&◌, if◌then◌else◌, List, [], ◌∷◌, drop, map, position, Option, Some, None, slice_get, slice_range}
 use Rattle.std.specs.Str.{bytes_eq}
 use Rattle.bx_lex.specs.declared.token.Token.{Token}
 use Rattle.bx_lex.specs.declared.token.TokenKind.{TokenKind}

@@ -1,9 +1,8 @@
-use Rattle.std.proofs.Common.{◌≡◌, ℕ, suc, ◌+◌, ◌∷◌, rules, refl, sym, ap, ◌∙◌, arith}
+use Rattle.std.proofs.Common.{◌∷◌, sym, ap, ◌∙◌, arith}
 use Rattle.std.proofs.lemmas.Result.{err_from_is_err_and}
 use Rattle.bx_verilog.specs.declared.terminal.Terminal.TheVariants.{Mark}
-use Rattle.bx_verilog.specs.Trees.{tree, tail, started}
-use Rattle.bx_verilog.specs.ReadsExpressions.{primary_at, level_at, tail_at, joined_at, inverse_at, group_at}
-use Rattle.bx_verilog.specs.Gives.{Gives}
+use Rattle.bx_verilog.specs.Trees.{tree}
+use Rattle.bx_verilog.specs.ReadsExpressions.{primary_at}
 use Rattle.bx_verilog.proofs.ReadsExpressions.{primary_tilde, primary_open, primary_empty, primary_mark, primary_neither, primary_name, primary_bit, fails_too, gives_same, level_none, level_some, operands_fail, operands_go_on, operands_end, operands_shrink, shrinks, tail-push}
 use Rattle.bx_verilog.proofs.expression.+expressions.Goals as goal
 

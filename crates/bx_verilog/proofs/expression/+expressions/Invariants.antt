@@ -1,5 +1,5 @@
-use Rattle.std.proofs.Common.{◌≡◌, ◌≤◌, ◌<◌, length, IfOk, ℕ, ◌+◌, ◌-◌, ◌*◌}
-use Rattle.bx_verilog.specs.Trees.{tree, tail}
+use Rattle.std.proofs.Common.{◌≡◌, length, ◌+◌, ◌*◌}
+use Rattle.bx_verilog.specs.Trees.{tail}
 use Rattle.bx_verilog.specs.ReadsExpressions.{primary_at, level_at, tail_at}
 use Rattle.bx_verilog.proofs.ReadsExpressions.{ahead}
 use Rattle.bx_verilog.proofs.expression.+expressions.Given as goal

@@ -1,5 +1,4 @@
-use Rattle.std.proofs.Common.{◌<◌, length, arith, sym, ◌∙◌}
-use Rattle.std.proofs.lemmas.Bool.{eqb-false}
+use Rattle.std.proofs.Common.{sym, ◌∙◌}
 use Rattle.bx_verilog.proofs.ReadsExpressions.{joined_tree, some_operands}
 use Rattle.bx_verilog.proofs.expression.joined.Goals as goal
 

@@ -1,7 +1,6 @@
-use Rattle.std.proofs.Common.{◌≡◌, sym, ◌∙◌}
+use Rattle.std.proofs.Common.{sym, ◌∙◌}
 use Rattle.std.proofs.lemmas.Result.{err_from_is_err_and}
 use Rattle.std.proofs.lemmas.List.{map_push}
-use Rattle.bx_verilog.specs.Trees.{tree}
 use Rattle.bx_verilog.specs.ReadsModules.{expression, comma_next, comma_step}
 use Rattle.bx_verilog.proofs.ReadsExpressions.{fails_too}
 use Rattle.bx_verilog.proofs.Repeats.{loop_fails, loop_goes_on, loop_ends}

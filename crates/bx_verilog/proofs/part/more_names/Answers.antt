@@ -1,4 +1,4 @@
-use Rattle.std.proofs.Common.{◌≡◌, sym, ◌∙◌}
+use Rattle.std.proofs.Common.{sym, ◌∙◌}
 use Rattle.std.proofs.lemmas.Result.{err_from_is_err_and}
 use Rattle.bx_verilog.specs.Trees.{tree}
 use Rattle.bx_verilog.specs.ReadsModules.{comma_behind_net, name_and_expression}

@@ -8,3 +8,4 @@ pub mod ReadsExpressions
 pub mod Repeats
 pub mod ReadsModules
 pub mod Mapped
+pub mod ModuleSteps

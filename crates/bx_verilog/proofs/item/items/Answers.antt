@@ -4,7 +4,8 @@ use Rattle.std.proofs.lemmas.List.{map_push}
 use Rattle.bx_verilog.specs.ReadsModules.{item_next, one_item}
 use Rattle.bx_verilog.proofs.ReadsExpressions.{fails_too}
 use Rattle.bx_verilog.proofs.Repeats.{loop_fails, loop_goes_on, loop_ends}
-use Rattle.bx_verilog.proofs.ReadsModules.{items_repeat, item_step, item_step_fails}
+use Rattle.bx_verilog.proofs.ReadsModules.{items_repeat}
+use Rattle.bx_verilog.proofs.ModuleSteps.{item_step, item_step_fails}
 use Rattle.bx_verilog.proofs.item.items.Goals as goal
 
 pub returns-in_err-item : goal.returns-in_err-item

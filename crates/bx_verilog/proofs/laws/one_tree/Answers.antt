@@ -1,4 +1,4 @@
-use Rattle.bx_verilog.proofs.ReadsModules.{module_once}
+use Rattle.bx_verilog.proofs.ModuleSteps.{module_once}
 use Rattle.bx_verilog.proofs.laws.one_tree.Goals as goal
 
 pub returns : goal.returns

@@ -4,7 +4,7 @@ use Rattle.std.proofs.lemmas.List.{map_push}
 use Rattle.bx_verilog.specs.ReadsModules.{expression, comma_next, comma_step}
 use Rattle.bx_verilog.proofs.ReadsExpressions.{fails_too}
 use Rattle.bx_verilog.proofs.Repeats.{loop_fails, loop_goes_on, loop_ends}
-use Rattle.bx_verilog.proofs.ReadsModules.{expressions_repeat}
+use Rattle.bx_verilog.proofs.ModuleSteps.{expressions_repeat}
 use Rattle.bx_verilog.proofs.part.more_expressions.Goals as goal
 
 pub returns-in_err-expression : goal.returns-in_err-expression

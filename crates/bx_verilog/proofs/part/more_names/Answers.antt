@@ -4,7 +4,8 @@ use Rattle.bx_verilog.specs.Trees.{tree}
 use Rattle.bx_verilog.specs.ReadsModules.{comma_behind_net, name_and_expression}
 use Rattle.bx_verilog.proofs.ReadsExpressions.{fails_too}
 use Rattle.bx_verilog.proofs.Repeats.{loop_fails, loop_goes_on, loop_ends}
-use Rattle.bx_verilog.proofs.ReadsModules.{names_repeat, not_net, net_tree, names_stop, names_go, name_step, name_step_fails, no_comma_names}
+use Rattle.bx_verilog.proofs.ReadsModules.{names_repeat}
+use Rattle.bx_verilog.proofs.ModuleSteps.{not_net, net_tree, names_stop, names_go, name_step, name_step_fails, no_comma_names}
 use Rattle.bx_verilog.proofs.part.more_names.Goals as goal
 
 pub returns-in_default : goal.returns-in_default

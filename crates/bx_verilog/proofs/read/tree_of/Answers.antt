@@ -4,7 +4,7 @@ use Rattle.std.proofs.lemmas.Result.{err_from_is_err_and}
 use Rattle.bx_verilog.specs.declared.terminal.Terminal.{Terminal}
 use Rattle.bx_verilog.specs.Parts.{module_tree}
 use Rattle.bx_verilog.specs.Grammar.{IsModule}
-use Rattle.bx_verilog.proofs.ReadsModules.{module_found, module_only}
+use Rattle.bx_verilog.proofs.ModuleSteps.{module_found, module_only}
 use Rattle.bx_verilog.proofs.read.tree_of.Goals as goal
 
 pub returns-clause-found : goal.returns-clause-found

@@ -40,7 +40,7 @@ fn nested(alloc: Global, open: &str, close: &str, count: u32) -> Result<String, 
 
 #[test]
 fn taken(rt: HostRuntime) -> Result<(), Fail> {
-    let table: [&str; 12] = [
+    let table: [&str; 18] = [
         "module m; endmodule",
         "module m(); endmodule",
         "module m(a, y); input a; output y; assign y = a; endmodule",
@@ -53,6 +53,12 @@ fn taken(rt: HostRuntime) -> Result<(), Fail> {
         "module \\module (\\a , \\y+z ); input a; output \\y+z ; or \\reg (\\y+z , a, a); endmodule",
         "module m(a, y); input a; output y; and and2(y, a, a); or (z, a), o(w, a); xor (p, a, 1'B0); nor n(q, a); endmodule",
         "module m(y); output y; assign y = 1'O1; wire q; endmodule // and no more",
+        "module m(a, y); input a; output y; assign y=a; not(y,a); endmodule",
+        "module m(a, y); input a; output y; assign y=a; not(p,q); not(q,p); endmodule",
+        "module m(a, y); input a; output y; assign y = a & k; endmodule",
+        "module m(a, y); input a; output y; endmodule",
+        "module m(a,a); input a; endmodule",
+        "module m(a); input a; endmodule",
     ];
     for text in &table {
         let found = fault(rt.alloc(), text.as_bytes())?;

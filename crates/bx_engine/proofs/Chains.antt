@@ -9,17 +9,14 @@ use Rattle.std.proofs.lemmas.Slice.Eq.{bytes_eq-Decides}
 use Rattle.bx_logic.specs.declared.op.Op.TheVariants.{Buf, Not}
 use Rattle.bx_logic.specs.Op.{op_value}
 use Rattle.bx_verilog.specs.Module.{Text, Equation, Module, Assignment, Meets, Gives}
-use Rattle.bx_verilog.specs.Chain.{Chain, Statement, IsChain, IsUnary, Follows, last_net, AreDistinct, targets, is_not, inversions, equation_of, module_of}
+use Rattle.bx_logic.specs.Lists.{AreDistinct}
+use Rattle.bx_verilog.specs.Chain.{Chain, Statement, IsChain, IsUnary, Follows, last_net, targets, is_not, inversions, equation_of, module_of}
 use Rattle.bx_engine.specs.Grids.{IsUsed}
+use Rattle.bx_engine.specs.ChainNetworks.{inverted}
 
--- a value negated n times
-abbrev pub flips : ℕ → Bool → Bool
-flips zero b = b
-flips (suc n) b = not (flips n b)
-
-flips-not : (n : ℕ) (b : Bool) → flips n (not b) ≡ not (flips n b)
-flips-not zero b = refl
-flips-not (suc n) b = ap not (flips-not n b)
+inverted-not : (n : ℕ) (b : Bool) → inverted n (not b) ≡ not (inverted n b)
+inverted-not zero b = refl
+inverted-not (suc n) b = ap not (inverted-not n b)
 
 inversions-cons : (s : Statement) (ss : List Statement) → inversions (s ∷ ss) ≡ cond (is_not s.op) 1 0 + inversions ss
 inversions-cons s ss = sum_by-cons (λ s. cond (is_not s.op) 1 0) s ss
@@ -32,19 +29,19 @@ inversions-not s ss e = inversions-cons s ss ∙ ap (λ op. cond (is_not op) 1 0
 
 -- in every valuation
 chain-value : (v : Assignment) (net : Text) (ss : List Statement) → Follows net ss → AllByRecursion (λ s. IsUnary s.op) ss →
-    AllByRecursion (Meets v) (map equation_of ss) → v (last_net net ss) ≡ flips (inversions ss) (v net)
+    AllByRecursion (Meets v) (map equation_of ss) → v (last_net net ss) ≡ inverted (inversions ss) (v net)
 chain-value v net [] f u m = refl
 chain-value v net (s ∷ ss) f u m =
-    let rest : v (last_net s.target ss) ≡ flips (inversions ss) (v s.target) = chain-value v s.target ss f.1 u.1 m.1 in
+    let rest : v (last_net s.target ss) ≡ inverted (inversions ss) (v s.target) = chain-value v s.target ss f.1 u.1 m.1 in
     let here : v s.target ≡ op_value s.op (v net ∷ []) = m.0 ∙ ap (λ n. op_value s.op (v n ∷ [])) f.0 in
     elim u.0 [
       | inl e ↦ rest
-          ∙ ap (flips (inversions ss)) (here ∙ ap (λ op. op_value op (v net ∷ [])) e)
-          ∙ ap (λ n. flips n (v net)) (sym (inversions-buf s ss e))
+          ∙ ap (inverted (inversions ss)) (here ∙ ap (λ op. op_value op (v net ∷ [])) e)
+          ∙ ap (λ n. inverted n (v net)) (sym (inversions-buf s ss e))
       | inr e ↦ rest
-          ∙ ap (flips (inversions ss)) (here ∙ ap (λ op. op_value op (v net ∷ [])) e)
-          ∙ flips-not (inversions ss) (v net)
-          ∙ ap (λ n. flips n (v net)) (sym (inversions-not s ss e))
+          ∙ ap (inverted (inversions ss)) (here ∙ ap (λ op. op_value op (v net ∷ [])) e)
+          ∙ inverted-not (inversions ss) (v net)
+          ∙ ap (λ n. inverted n (v net)) (sym (inversions-not s ss e))
     ]
 
 -- v with another value for one net
@@ -80,7 +77,7 @@ extend-meets v net (s ∷ ss) f d =
     (target ∙ ap (λ c. op_value s.op (c ∷ [])) (sym source), extend-meets (update v s.target b) s.target ss f.1 d.1)
 
 -- what the module of a chain gives its output
-pub chain-gives : (c : Chain) → IsChain c → (a : Assignment) → Gives (module_of c) a c.output (flips (inversions c.statements) (a c.input))
+pub chain-gives : (c : Chain) → IsChain c → (a : Assignment) → Gives (module_of c) a c.output (inverted (inversions c.statements) (a c.input))
 chain-gives c h a = record {
   some = (
     extend a c.statements,
@@ -89,7 +86,7 @@ chain-gives c h a = record {
       equations = extend-meets a c.input c.statements h.follows h.distinct;
     },
   );
-  every = λ v is. ap v (sym h.ends) ∙ chain-value v c.input c.statements h.follows h.unary is.equations ∙ ap (flips (inversions c.statements)) is.inputs.0;
+  every = λ v is. ap v (sym h.ends) ∙ chain-value v c.input c.statements h.follows h.unary is.equations ∙ ap (inverted (inversions c.statements)) is.inputs.0;
 }
 
 Contains-next : {X : Type 0} (x : X) (xs : List X) (y : X) → Contains xs y → Contains (x ∷ xs) y

@@ -16,7 +16,7 @@ use Rattle.bx_engine.specs.Tiles.{x_of, y_of, is_odd, one_less, column_beside, t
 use Rattle.bx_engine.specs.Grids.{FormGrid, shape_in, shape_at, takes, sends, sends_from, Holds, IsFormGrid, IsSound, value_of, reads, shape_value, sent, IsBorderValuation}
 use Rattle.bx_engine.specs.Columns.{column, column_form, column_tiles, input_r, output_l, output_r, not_ll, not_rr}
 use Rattle.bx_engine.proofs.Tiles.{is_odd-suc}
-use Rattle.bx_engine.proofs.Chains.{flips}
+use Rattle.bx_engine.specs.ChainNetworks.{inverted}
 
 -- the side on which an odd row goes on, and an even one
 abbrev pub way : Bool → Side
@@ -240,7 +240,7 @@ sent-way k t given bs h =
 
 -- the value that goes out of row t
 border-value : (k : ℕ) (given : ℕ → Bool) (bs : List Bool) → IsBorderValuation (column k) given bs → (t : ℕ) → t ≤ k →
-    get_or bs (border t (way (is_odd t))) false ≡ flips t (given 0)
+    get_or bs (border t (way (is_odd t))) false ≡ inverted t (given 0)
 border-value k given bs v zero h =
     v.each 0 Right (omega arith)
     ∙ sent-way k 0 given bs h
@@ -254,7 +254,7 @@ border-value k given bs v (suc t) h =
     ∙ ap not (border-value k given bs v t (omega arith))
 
 pub output-value : (k t : ℕ) (given : ℕ → Bool) (bs : List Bool) → t ≡ k + 1 → IsBorderValuation (column k) given bs →
-    first_value (reads (column k) bs t) ≡ flips k (given 0)
+    first_value (reads (column k) bs t) ≡ inverted k (given 0)
 output-value k t given bs e v =
     let last : t ≡ suc k = omega arith in
     ap (λ n. first_value (reads (column k) bs n)) last ∙ ap first_value (reads-column k k bs (omega arith)) ∙ border-value k given bs v k (omega arith)

@@ -1,5 +1,5 @@
 -- The network of a chain computes the chain's module.
-use Rattle.std.proofs.Common.{◌≡◌, ℕ, zero, suc, ◌+◌, min, Bool, not, [], ◌∷◌, ◌++◌, replicate, Some, sym, ◌∙◌, ap, subst, refl, arith}
+use Rattle.std.proofs.Common.{◌≡◌, ℕ, zero, suc, ◌+◌, min, Bool, [], ◌∷◌, ◌++◌, replicate, Some, sym, ◌∙◌, ap, subst, refl, arith}
 use Rattle.std.specs.Prelude.{slice_get, slice_index_or}
 use Rattle.bx_verilog.specs.Module.{Text, Assignment, Gives}
 use Rattle.bx_verilog.specs.Chain.{Chain, IsChain, inversions, module_of}
@@ -8,11 +8,7 @@ use Rattle.bx_engine.specs.Networks.{Node, IsValuation}
 use Rattle.bx_engine.specs.ChainNetworks.{chain_network, not_node, output_node, inverted}
 use Rattle.bx_engine.specs.Meanings.{port_value, NetworkComputes}
 use Rattle.bx_engine.proofs.ChainNetworks.{chain_inverts}
-use Rattle.bx_engine.proofs.Chains.{flips, chain-gives}
-
-flips-inverted : (k : ℕ) (b : Bool) → flips k b ≡ inverted k b
-flips-inverted zero b = refl
-flips-inverted (suc k) b = ap not (flips-inverted k b)
+use Rattle.bx_engine.proofs.Chains.{chain-gives}
 
 some_is : {x y : Node} → Some x ≡ Some y → x ≡ y
 some_is e = cc
@@ -32,7 +28,7 @@ value_at_output c is a values valuation (suc v) node e kind =
     let place = output_at k v node e kind in
     let last : values (k + 1) ≡ inverted (min (k + 1) k) (a c.input) = (chain_inverts k (port_value (module_of c) a) values).0 valuation (k + 1) (omega arith) in
     let less : min (k + 1) k ≡ k = omega arith in
-    let value : flips k (a c.input) ≡ values (suc v) = flips-inverted k (a c.input) ∙ sym (last ∙ ap (λ n. inverted n (a c.input)) less) ∙ ap values (omega (arith, place.0)) in
+    let value : inverted k (a c.input) ≡ values (suc v) = sym (last ∙ ap (λ n. inverted n (a c.input)) less) ∙ ap values (omega (arith, place.0)) in
     let port : c.output ≡ slice_index_or (c.output ∷ []) node.port [] = ap (λ (n : Node). slice_index_or (c.output ∷ []) n.port []) (sym place.1) in
     subst (λ (net : Text). Gives (module_of c) a net (values (suc v))) port (subst (λ (b : Bool). Gives (module_of c) a c.output b) value (chain-gives c is a))
 

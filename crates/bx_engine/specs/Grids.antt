@@ -1,7 +1,8 @@
 -- Form grids: when one is sound, what the values of its borders are, and when it computes a module.
-use Rattle.std.specs.Prelude.{◌≡◌, ◌≢◌, ◌==◌, ℕ, ◌+◌, ◌*◌, ◌<◌, Bool, false, if◌then◌else◌, IsTrue, List, [], ◌∷◌, ◌++◌, map, length, slice_index_or, Option, Some, None, IsSome, ◌⊎◌, ⊤, Contains}
+use Rattle.std.specs.Prelude.{◌≡◌, ◌==◌, ℕ, ◌+◌, ◌*◌, ◌<◌, Bool, false, if◌then◌else◌, IsTrue, List, [], ◌∷◌, ◌++◌, map, length, slice_index_or, Option, Some, None, IsSome, ◌⊎◌, Contains}
 use Rattle.std.specs.List.{AllByRecursion}
 use Rattle.bx_logic.specs.Op.{first_value}
+use Rattle.bx_logic.specs.Lists.{AreDistinct}
 use Rattle.bx_verilog.specs.Module.{Text, Equation, Module, Assignment, Gives}
 use Rattle.bx_engine.specs.declared.grid.Ratio.{Ratio}
 use Rattle.bx_engine.specs.declared.forms.Kind.{Kind}
@@ -121,11 +122,6 @@ pin_names pins = map (λ pin. pin.name) pins
 abbrev pub pin_tiles : List Pin → List ℕ
 pin_tiles pins = map (λ pin. pin.tile) pins
 
--- no two are the same
-abbrev pub AreDifferent : {X : Type 0} → List X → Type 0
-AreDifferent [] = ⊤
-AreDifferent (x ∷ xs) = AllByRecursion (λ y. y ≢ x) xs × AreDifferent xs
-
 -- the value of the net is read on the way to an output. That is the use of a net in modules without
 -- constants, which are all that is read today: beside a constant a value can be read and count for nothing
 pub data IsUsed (m : Module) : Text → Type 0 where
@@ -146,7 +142,7 @@ pub record ArePins (g : FormGrid) (m : Module) (pins : Pins) : Type 0 where
   pub outputs : pin_names pins.outputs ≡ m.outputs
   pub first : AllByRecursion (λ t. IsTile g t × IsInFirstRow g t × Holds g t Input) (pin_tiles pins.inputs)
   pub last : AllByRecursion (λ t. IsTile g t × IsInLastRow g t × Holds g t Output) (pin_tiles pins.outputs)
-  pub apart : AreDifferent (pin_tiles pins.inputs ++ pin_tiles pins.outputs)
+  pub apart : AreDistinct (pin_tiles pins.inputs ++ pin_tiles pins.outputs)
   -- no other tile holds an input or an output form
   pub no_more_inputs : (t : ℕ) → IsTile g t → Holds g t Input → Contains (pin_tiles pins.inputs) t
   pub no_more_outputs : (t : ℕ) → IsTile g t → Holds g t Output → Contains (pin_tiles pins.outputs) t

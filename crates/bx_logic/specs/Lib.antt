@@ -5,3 +5,4 @@ pub mod Known
 pub mod Ascending
 pub mod Cycles
 pub mod Components
+pub mod Lists

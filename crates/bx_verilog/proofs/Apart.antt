@@ -14,7 +14,7 @@ use Rattle.std.proofs.lemmas.Slice.Eq.{bytes_eq-Decides}
 use Rattle.std.proofs.lemmas.Map.Made.{IsDistinct-from_count, distinct_count-from_IsDistinct}
 use Rattle.std.proofs.lemmas.Map.Views.{btree_set_len-from_list}
 use Rattle.bx_verilog.specs.Module.{Text}
-use Rattle.bx_verilog.specs.Chain.{AreDistinct}
+use Rattle.bx_logic.specs.Lists.{AreDistinct}
 
 abbrev pub by_text : Bor Text → Bor Text → Ordering
 by_text x y = slice_cmp nat_cmp x.now y.now

@@ -1,8 +1,9 @@
 -- The first form of module: one input, one output, and a chain of `not` and `buf` between them.
 -- A text is of this form where it is the spelling of such a chain.
-use Rattle.std.specs.Prelude.{◌≡◌, ◌≢◌, ℕ, ◌≤◌, Bool, true, false, if◌then◌else◌, List, [], ◌∷◌, ◌++◌, length, map, count_by, codes, Contains, IsTrue, slice_index, ◌⊎◌, ⊤}
+use Rattle.std.specs.Prelude.{◌≡◌, ℕ, ◌≤◌, Bool, true, false, if◌then◌else◌, List, [], ◌∷◌, ◌++◌, length, map, count_by, codes, Contains, IsTrue, slice_index, ◌⊎◌, ⊤}
 use Rattle.std.specs.Char.{is_ascii_alphabetic, is_ascii_alphanumeric}
 use Rattle.std.specs.List.{AllByRecursion, flat_map}
+use Rattle.bx_logic.specs.Lists.{AreDistinct}
 use Rattle.bx_verilog.specs.declared.reserved.TheConstants.{RESERVED}
 use Rattle.bx_logic.specs.declared.op.Op.{Op}
 use Rattle.bx_logic.specs.declared.op.Op.TheVariants.{Buf, Not, And, Or, Nand, Nor, Xor, Xnor}
@@ -74,11 +75,6 @@ Follows net (s ∷ ss) = (s.source ≡ net) × Follows s.target ss
 abbrev pub last_net : Text → List Statement → Text
 last_net net [] = net
 last_net net (s ∷ ss) = last_net s.target ss
-
--- no two are the same
-abbrev pub AreDistinct : List Text → Type 0
-AreDistinct [] = ⊤
-AreDistinct (x ∷ xs) = AllByRecursion (λ y. y ≢ x) xs × AreDistinct xs
 
 abbrev pub targets : List Statement → List Text
 targets ss = map (λ s. s.target) ss

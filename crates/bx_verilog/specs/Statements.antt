@@ -2,7 +2,8 @@
 use Rattle.std.specs.Prelude.{◌≡◌, ◌≤◌, List, [], ◌∷◌, length, map, ⊤}
 use Rattle.bx_verilog.specs.declared.statements.Gate.{Gate}
 use Rattle.bx_verilog.specs.Module.{Text}
-use Rattle.bx_verilog.specs.Chain.{Statement, IsName, IsUnary, AreDistinct, targets, last_net, inversions, most_inversions}
+use Rattle.bx_logic.specs.Lists.{AreDistinct}
+use Rattle.bx_verilog.specs.Chain.{Statement, IsName, IsUnary, targets, last_net, inversions, most_inversions}
 
 -- a gate without where its names lie in memory
 abbrev pub written : Gate → Statement

@@ -1,7 +1,8 @@
 //! The nets of a chain: its input, and what each statement drives. That no two of them are the same
 //! is told in n log n comparisons. Which net a statement reads isn't looked at here.
 ghost use Rattle.std.specs.Prelude.{◌≡◌, ◌∷◌, ◌↔◌, IsTrue, IfOk, map};
-ghost use Rattle.bx_verilog.specs.Chain.{AreDistinct, targets};
+ghost use Rattle.bx_logic.specs.Lists.{AreDistinct};
+ghost use Rattle.bx_verilog.specs.Chain.{targets};
 ghost use Rattle.bx_verilog.specs.Statements.{all_written};
 
 use crate::statements::Gate;

@@ -2,6 +2,7 @@
 //! valuation, that the column of a chain is sound and computes its module, and near misses that the
 //! definitions refuse. Nothing here runs.
 ghost use Rattle.std.specs.Prelude.{◌≡◌, ◌≢◌, ◌==◌, ◌<◌, ◌↔◌, ℕ, ◌+◌, ◌%◌, Bool, true, false, if◌then◌else◌, List, [], ◌∷◌, ◌++◌, replicate, codes, Contains};
+ghost use Rattle.bx_logic.specs.Lists.{AreDistinct};
 ghost use Rattle.bx_verilog.specs.Module.{Text, Module};
 ghost use Rattle.bx_verilog.specs.Chain.{Chain, IsChain, inversions, module_of};
 ghost use Rattle.bx_engine.specs.declared.grid.Ratio.{Ratio};
@@ -9,7 +10,7 @@ ghost use Rattle.bx_engine.specs.declared.forms.Side.{Side};
 ghost use Rattle.bx_engine.specs.Forms.{form_name, opposite};
 ghost use Rattle.bx_engine.specs.Tiles.{tile_count, y_of, zone_of, below, above};
 ghost use Rattle.bx_engine.specs.FormTable.{IsFormTable};
-ghost use Rattle.bx_engine.specs.Grids.{FormGrid, IsFormGrid, IsSound, LosesNothing, reads, IsBorderValuation, IsOnlyBorderValuation, Pins, pin_names, AreDifferent, IsUsed, ArePins, Computes};
+ghost use Rattle.bx_engine.specs.Grids.{FormGrid, IsFormGrid, IsSound, LosesNothing, reads, IsBorderValuation, IsOnlyBorderValuation, Pins, pin_names, IsUsed, ArePins, Computes};
 ghost use Rattle.bx_engine.specs.Columns.{column, column_pins, input_r, output_l, output_r, not_ll, not_rr};
 ghost use Rattle.bx_engine.specs.Examples.{conjoined, conjoined_with, conjoined_borders, conjoined_pins, conjunction_of, double, cross, two_lines, AreRead, wired, averted, cut_short, lowered, negation, three_row_pins, exchanged_pins};
 
@@ -52,7 +53,7 @@ pub fn a_column_has_its_pins()
 /// have the same.
 pub fn pins_are_named_as_the_used_inputs()
     ensures names { (g : FormGrid) (m : Module) (pins : Pins) → ArePins g m pins → (input : Text) → Contains (pin_names pins.inputs) input ↔ (Contains m.inputs input × IsUsed m input) }
-    ensures once { (g : FormGrid) (m : Module) (pins : Pins) → ArePins g m pins → AreDifferent m.inputs → AreDifferent (pin_names pins.inputs) }
+    ensures once { (g : FormGrid) (m : Module) (pins : Pins) → ArePins g m pins → AreDistinct m.inputs → AreDistinct (pin_names pins.inputs) }
 {}
 
 /// The column of a chain computes the module of the chain.

@@ -1,7 +1,8 @@
 use Rattle.std.proofs.Common.{◌≡◌, ◌∷◌, ◌↔◌, IsTrue, IfOk, List, map, take, subst, ◌∙◌, arith}
 use Rattle.std.proofs.lemmas.List.{take_all}
 use Rattle.bx_verilog.specs.Module.{Text}
-use Rattle.bx_verilog.specs.Chain.{AreDistinct, targets}
+use Rattle.bx_logic.specs.Lists.{AreDistinct}
+use Rattle.bx_verilog.specs.Chain.{targets}
 use Rattle.bx_verilog.specs.Statements.{all_written}
 use Rattle.bx_verilog.proofs.nets.drive_apart.Goals as goal
 

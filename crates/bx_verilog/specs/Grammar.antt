@@ -52,7 +52,7 @@ word Output = Mark OutputWord
 abbrev pub IsDirection : Direction → Between
 IsDirection d ts rest = (a : List Terminal) × Is (word d) ts a × IsOptional (Mark WireWord) a rest
 
--- the first word of an item of a kind
+-- what stands before the parts of an item of a kind
 abbrev pub IsHead : Kind → Between
 IsHead (Declaration d) = IsDirection d
 IsHead Wire = Is (Mark WireWord)

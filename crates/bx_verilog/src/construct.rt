@@ -8,7 +8,7 @@ use crate::terminals::place_of;
 use bx_lex::{Token, TokenKind};
 
 /// The symbols of which each stands for a construct, wherever it stands.
-const SYMBOLS: [(u8, Construct); 12] = [
+const SYMBOLS: [(u8, Construct); 13] = [
     (b'[', Construct::Vector),
     (b'?', Construct::Ternary),
     (b'#', Construct::Delay),
@@ -21,17 +21,12 @@ const SYMBOLS: [(u8, Construct); 12] = [
     (b'<', Construct::Operator),
     (b'>', Construct::Operator),
     (b'!', Construct::Operator),
+    (b'`', Construct::Directive),
 ];
-
-/// The byte of a directive.
-const DIRECTIVE: u8 = b'`';
 
 /// The construct that a symbol stands for.
 fn symbol_construct(bytes: &[u8]) -> Option<Construct> {
     let byte = bytes.first()?;
-    if *byte == DIRECTIVE {
-        return Some(Construct::Directive);
-    }
     for (symbol, construct) in &SYMBOLS {
         if symbol == byte {
             return Some(*construct);

@@ -27,6 +27,7 @@ pub mod tree;
 pub use chain::{Chain, read_chain};
 pub use fault::{ChainFault, Construct, ReadFault};
 pub use read::read_module;
+pub use tree::Module;
 
 #[cfg(test)]
 mod read_tests;

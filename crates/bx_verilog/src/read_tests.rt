@@ -22,20 +22,32 @@ fn fault(alloc: Global, text: &[u8]) -> Result<Option<ReadFault>, Fail> {
     }
 }
 
-/// The text with `assign y = `, so many of the first part, `a`, so many of the last, and the end.
-fn nested(alloc: Global, open: &str, close: &str, count: u32) -> Result<String, AllocError> {
-    let mut text = String::new(alloc);
-    text.push_str(HEAD)?;
-    text.push_str("assign y = ")?;
-    for _ in 0..count {
-        text.push_str(open)?;
+/// A text in which something nests: what stands before it, opens, closes and stands behind it.
+#[derive(Clone, Copy)]
+struct Nested {
+    before: &'static str,
+    open: &'static str,
+    close: &'static str,
+    count: u32,
+    behind: &'static str,
+}
+
+impl Nested {
+    fn text(&self, alloc: Global) -> Result<String, AllocError> {
+        let mut text = String::new(alloc);
+        text.push_str(HEAD)?;
+        text.push_str(self.before)?;
+        for _ in 0..self.count {
+            text.push_str(self.open)?;
+        }
+        text.push_str("a")?;
+        for _ in 0..self.count {
+            text.push_str(self.close)?;
+        }
+        text.push_str(self.behind)?;
+        text.push_str(" endmodule")?;
+        Ok(text)
     }
-    text.push_str("a")?;
-    for _ in 0..count {
-        text.push_str(close)?;
-    }
-    text.push_str("; endmodule")?;
-    Ok(text)
 }
 
 #[test]
@@ -69,47 +81,52 @@ fn taken(rt: HostRuntime) -> Result<(), Fail> {
 
 #[test]
 fn refused_behind_the_head(rt: HostRuntime) -> Result<(), Fail> {
-    let table: [(&str, ReadFault); 16] = [
-        (
-            "assign y = a ? a : a; endmodule",
-            ReadFault::NotTaken(48, Construct::Ternary),
-        ),
-        (
-            "assign y = a + a; endmodule",
-            ReadFault::NotTaken(48, Construct::Operator),
-        ),
-        (
-            "foo u1 (y, a); endmodule",
-            ReadFault::NotTaken(35, Construct::Instance),
-        ),
-        (
-            "always endmodule",
-            ReadFault::NotTaken(35, Construct::Reserved),
-        ),
-        (
-            "and #2 (y, a, a); endmodule",
-            ReadFault::NotTaken(39, Construct::Delay),
-        ),
-        (
-            "assign y = {a}; endmodule",
-            ReadFault::NotTaken(46, Construct::Concat),
-        ),
-        (
-            "assign y = 2; endmodule",
-            ReadFault::NotTaken(46, Construct::Number),
-        ),
-        (
-            "endmodule module n; endmodule",
-            ReadFault::NotTaken(45, Construct::Second),
-        ),
-        ("assign y = a == a; endmodule", ReadFault::Syntax(48)),
-        ("assign y = a && a; endmodule", ReadFault::Syntax(49)),
-        ("assign y = (a; endmodule", ReadFault::Syntax(48)),
-        ("not (y, a & a, a); endmodule", ReadFault::Syntax(48)),
-        ("not (y, (a), a); endmodule", ReadFault::Syntax(46)),
-        ("not (y); endmodule", ReadFault::Syntax(41)),
-        ("assign y = a; endmodule end", ReadFault::Syntax(59)),
-        ("assign y = a;", ReadFault::Syntax(48)),
+    use Construct::{
+        Concat, Delay, Directive, Instance, Number, Operator, Reserved, Second, Ternary, Vector,
+    };
+    use ReadFault::{NotTaken, Syntax};
+    let table: [(&str, ReadFault); 41] = [
+        ("assign y = a ? a : a; endmodule", NotTaken(48, Ternary)),
+        ("assign y = a + a; endmodule", NotTaken(48, Operator)),
+        ("assign y = a - a; endmodule", NotTaken(48, Operator)),
+        ("assign y = a * a; endmodule", NotTaken(48, Operator)),
+        ("assign y = a / a; endmodule", NotTaken(48, Operator)),
+        ("assign y = a % a; endmodule", NotTaken(48, Operator)),
+        ("assign y = a < a; endmodule", NotTaken(48, Operator)),
+        ("assign y = a > a; endmodule", NotTaken(48, Operator)),
+        ("assign y = !a; endmodule", NotTaken(46, Operator)),
+        ("assign y = {a}; endmodule", NotTaken(46, Concat)),
+        ("assign y = a[0]; endmodule", NotTaken(47, Vector)),
+        ("assign y = `a; endmodule", NotTaken(46, Directive)),
+        ("and #2 (y, a, a); endmodule", NotTaken(39, Delay)),
+        ("foo u1 (y, a); endmodule", NotTaken(35, Instance)),
+        ("\\and (y, a, a); endmodule", NotTaken(35, Instance)),
+        ("always endmodule", NotTaken(35, Reserved)),
+        ("assign y = 2; endmodule", NotTaken(46, Number)),
+        ("assign y = 1'b2; endmodule", NotTaken(46, Number)),
+        ("assign y = 2'b0; endmodule", NotTaken(46, Number)),
+        ("assign y = 1'b00; endmodule", NotTaken(46, Number)),
+        ("assign y = 1'bx; endmodule", NotTaken(46, Number)),
+        ("endmodule module n; endmodule", NotTaken(45, Second)),
+        ("endmodule [", NotTaken(45, Vector)),
+        ("endmodule always", NotTaken(45, Reserved)),
+        ("endmodule foo", Syntax(45)),
+        ("module n; endmodule", Syntax(35)),
+        ("1'b0 endmodule", Syntax(35)),
+        ("assign y = a == a; endmodule", Syntax(48)),
+        ("assign y = a && a; endmodule", Syntax(49)),
+        ("assign y = a 2; endmodule", Syntax(48)),
+        ("assign y = (a; endmodule", Syntax(48)),
+        ("not (y, a & a, a); endmodule", Syntax(48)),
+        ("not (y, (a), a); endmodule", Syntax(46)),
+        ("not (y, 1'b0, a); endmodule", Syntax(47)),
+        ("not (2, a); endmodule", Syntax(40)),
+        ("not (y); endmodule", Syntax(41)),
+        ("and (y); endmodule", Syntax(41)),
+        ("wire wire t; endmodule", Syntax(40)),
+        ("assign y; endmodule", Syntax(43)),
+        ("assign y = a; endmodule end", Syntax(59)),
+        ("assign y = a;", Syntax(48)),
     ];
     for (item, wanted) in &table {
         let text = format!(in rt.alloc(); "{HEAD}{item}")?;
@@ -121,8 +138,16 @@ fn refused_behind_the_head(rt: HostRuntime) -> Result<(), Fail> {
 
 #[test]
 fn refused(rt: HostRuntime) -> Result<(), Fail> {
-    let table: [(&str, ReadFault); 6] = [
+    let table: [(&str, ReadFault); 11] = [
         ("", ReadFault::Syntax(0)),
+        ("foo", ReadFault::Syntax(0)),
+        ("always", ReadFault::NotTaken(0, Construct::Reserved)),
+        ("module m(a,);", ReadFault::Syntax(11)),
+        (
+            "module m(inout a);",
+            ReadFault::NotTaken(9, Construct::Reserved),
+        ),
+        ("module m(input a, wire b);", ReadFault::Syntax(18)),
         ("module m(a, y);", ReadFault::Syntax(15)),
         (
             "`timescale 1 module m; endmodule",
@@ -147,14 +172,46 @@ fn refused(rt: HostRuntime) -> Result<(), Fail> {
 
 #[test]
 fn nesting(rt: HostRuntime) -> Result<(), Fail> {
-    let table: [(&str, &str, u32, Option<ReadFault>); 4] = [
-        ("~", "", 256, None),
-        ("~", "", 257, Some(ReadFault::TooDeep(302))),
-        ("(", ")", 256, None),
-        ("(", ")", 257, Some(ReadFault::TooDeep(302))),
+    let assigned = |open, close, count| Nested {
+        before: "assign y = ",
+        open,
+        close,
+        count,
+        behind: ";",
+    };
+    let argument = |count| Nested {
+        before: "and (y, ",
+        open: "(",
+        close: ")",
+        count,
+        behind: ", a);",
+    };
+    let table: [(Nested, Option<ReadFault>); 10] = [
+        (assigned("~", "", 256), None),
+        (assigned("~", "", 257), Some(ReadFault::TooDeep(302))),
+        (assigned("(", ")", 256), None),
+        (assigned("(", ")", 257), Some(ReadFault::TooDeep(302))),
+        (assigned("~(", ")", 128), None),
+        (assigned("~(", ")", 129), Some(ReadFault::TooDeep(302))),
+        (argument(256), None),
+        (argument(257), Some(ReadFault::TooDeep(299))),
+        (
+            Nested {
+                behind: " ?;",
+                ..assigned("~", "", 257)
+            },
+            Some(ReadFault::TooDeep(302)),
+        ),
+        (
+            Nested {
+                before: "assign y = a a ",
+                ..assigned("~", "", 257)
+            },
+            Some(ReadFault::Syntax(48)),
+        ),
     ];
-    for (open, close, count, wanted) in &table {
-        let text = nested(rt.alloc(), open, close, *count)?;
+    for (nested, wanted) in &table {
+        let text = nested.text(rt.alloc())?;
         let found = fault(rt.alloc(), text.as_bytes())?;
         assert_eq!(rt; found, *wanted);
     }

@@ -4,3 +4,8 @@ pub mod Apart
 pub mod Ports
 pub mod Ends
 pub mod Whole
+pub mod ReadsExpressions
+pub mod Repeats
+pub mod ReadsModules
+pub mod Mapped
+pub mod ModuleSteps

@@ -5,3 +5,12 @@ pub mod Names
 pub mod Headings
 pub mod Statements
 pub mod Reads
+pub mod Trees
+pub mod Expressions
+pub mod ReadsExpressions
+pub mod Gives
+pub mod Parts
+pub mod Repeats
+pub mod ReadsModules
+pub mod Grammar
+pub mod Terminals

@@ -1,6 +1,34 @@
 //! The reserved words of the profile, as data. A name is none of them, whether the profile uses the
 //! word or refuses it.
 
+use crate::terminal::Mark;
+use bx_logic::Op;
+
+/// What a reserved word that the grammar uses is to it.
+#[derive(Clone, Copy, Debug, PartialEq, Eq)]
+pub enum Word {
+    Mark(Mark),
+    Gate(Op),
+}
+
+/// What the first words of the table are, in its order. The words behind them are refused.
+pub const USED: [Word; 14] = [
+    Word::Mark(Mark::Module),
+    Word::Mark(Mark::EndModule),
+    Word::Mark(Mark::Input),
+    Word::Mark(Mark::Output),
+    Word::Mark(Mark::Wire),
+    Word::Mark(Mark::Assign),
+    Word::Gate(Op::And),
+    Word::Gate(Op::Or),
+    Word::Gate(Op::Nand),
+    Word::Gate(Op::Nor),
+    Word::Gate(Op::Xor),
+    Word::Gate(Op::Xnor),
+    Word::Gate(Op::Buf),
+    Word::Gate(Op::Not),
+];
+
 /// The words that the grammar uses, and then those that it refuses (IEEE 1364-2005, annex B, as far
 /// as the profile goes).
 pub const RESERVED: [&str; 65] = [

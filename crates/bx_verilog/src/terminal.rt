@@ -1,0 +1,41 @@
+//! The terminals of the grammar: what a token of a text is to it. A keyword is the word alone, a name
+//! its bytes, and the two spellings of the operator xnor are one symbol. That a word is reserved, and
+//! which, is for the table of reserved words to say.
+
+use bx_logic::{Name, Op};
+
+/// A word or a symbol that the grammar names by its spelling.
+#[derive(Clone, Copy, Debug, PartialEq, Eq)]
+pub enum Mark {
+    Module,
+    EndModule,
+    Input,
+    Output,
+    Wire,
+    Assign,
+    Open,
+    Close,
+    Comma,
+    Semicolon,
+    Equals,
+    Tilde,
+    Ampersand,
+    Caret,
+    /// `~^` or `^~`.
+    TildeCaret,
+    Bar,
+}
+
+/// A token as the grammar sees it.
+#[derive(Debug, Drop)]
+pub enum Terminal {
+    Mark(Mark),
+    /// The keyword of a gate.
+    Gate(Op),
+    /// A word that isn't reserved, or an escaped word.
+    Name(Name),
+    /// `1'`, the letter of a base, and `0` or `1`.
+    Bit(bool),
+    /// A token that stands in no text of the grammar.
+    Other,
+}

@@ -154,3 +154,18 @@ fn nesting(rt: HostRuntime) -> Result<(), Fail> {
     }
     Ok(())
 }
+
+#[test]
+fn kept(rt: HostRuntime) -> Result<(), Fail> {
+    let text = b"module m(a, y); input a; output y; assign y = a; endmodule";
+    let Ok(tokens) = read_tokens(rt.alloc(), text) else {
+        return Err("the text has tokens".into());
+    };
+    let Ok(module) = read_module(rt.alloc(), text, &tokens) else {
+        return Err("the text is a module".into());
+    };
+    assert_eq!(rt; module.name().as_slice(), b"m".as_slice());
+    assert_eq!(rt; module.ports().len(), 2);
+    assert_eq!(rt; module.items().len(), 3);
+    Ok(())
+}

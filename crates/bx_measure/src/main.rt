@@ -48,7 +48,7 @@ fn say_tree(rt: &HostRuntime, text: &[u8], tokens: &Tokens) -> io::Result<bool>
     }
     match read_module(rt.alloc(), text, tokens) {
         Ok(module) => {
-            let count = module.items.len();
+            let count = module.items().len();
             println!(rt; "{count} items")?;
             Ok(true)
         }

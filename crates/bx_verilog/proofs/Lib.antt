@@ -9,3 +9,4 @@ pub mod Repeats
 pub mod ReadsModules
 pub mod Mapped
 pub mod ModuleSteps
+pub mod Sizes

@@ -10,11 +10,10 @@ use Rattle.bx_verilog.specs.declared.part.Kind.{Kind}
 use Rattle.bx_verilog.specs.declared.part.Kind.TheVariants.{Declaration, Wire, Assign, Gate}
 use Rattle.bx_verilog.specs.declared.tree.Expr.{Expr, Net, Bit as BitOf, Not', Group', Joined'}
 use Rattle.bx_verilog.specs.Trees.{Tree, net, Tail, done, link, levelled, tree, row_tail}
-use Rattle.bx_verilog.specs.declared.tree.Module.{Module}
 use Rattle.bx_verilog.specs.declared.stop.Stop.{Stop}
 use Rattle.bx_verilog.specs.declared.stop.Stop.TheVariants.{Bad, Deep, NoMemory}
 use Rattle.bx_verilog.specs.Gives.{Gives}
-use Rattle.bx_verilog.specs.Parts.{PartTree, declaration, wire, assign, gate, copies, ModuleTree, module_tree}
+use Rattle.bx_verilog.specs.Parts.{PartTree, declaration, wire, assign, gate, copies, ModuleTree}
 use Rattle.bx_verilog.specs.ReadsExpressions.{◌>>=◌, behind}
 use Rattle.bx_verilog.specs.ReadsModules.{next_is, comma_next, comma_step, is_net, net_name, comma_behind_net, item_next, header_at, expression, name_and_expression, item_at, one_item, module_at}
 use Rattle.bx_verilog.specs.Grammar.{Between, Is, AreMore, AreListed, IsExpr, IsWire, IsGate, IsPart, AreItems, IsHeader, IsModule}
@@ -163,12 +162,12 @@ pub item_step_fails : (limit : ℕ) (ts : List Terminal) → item_at limit ts �
 item_step_fails limit ts e = rw e refl
 
 -- What the reader of a module answers is the tree of the terminals, and it answers it where there is one.
-pub module_found : (r : Result Module Stop) (rest ts : List Terminal) → Gives module_tree rest r (module_at 256 ts) → IfOk r (λ m. IsModule 256 (module_tree m) ts)
-module_found (Ok m) rest ts h = module_reads 256 ts (module_tree m, rest) h
+pub module_found : (r : Result ModuleTree Stop) (rest ts : List Terminal) → Gives (λ m. m) rest r (module_at 256 ts) → IfOk r (λ m. IsModule 256 m ts)
+module_found (Ok m) rest ts h = module_reads 256 ts (m, rest) h
 module_found (Err e) rest ts h = tt
 
-pub module_only : (r : Result Module Stop) (rest ts : List Terminal) → Gives module_tree rest r (module_at 256 ts) → (m : ModuleTree) → IsModule 256 m ts →
-    MatchResult r (λ x. module_tree x ≡ m) (λ e. e ≡ NoMemory)
+pub module_only : (r : Result ModuleTree Stop) (rest ts : List Terminal) → Gives (λ m. m) rest r (module_at 256 ts) → (m : ModuleTree) → IsModule 256 m ts →
+    MatchResult r (λ x. x ≡ m) (λ e. e ≡ NoMemory)
 module_only (Ok x) rest ts h m is = ap (λ (y : ModuleTree × List Terminal). y.0) (some_is (sym h ∙ module_again 256 m ts is))
 module_only (Err NoMemory) rest ts h m is = refl
 module_only (Err (Bad _ _)) rest ts h m is = let read = module_again 256 m ts is in absurd (cc)

@@ -443,7 +443,7 @@ no_equals comma = refl
 no_equals semicolon = refl
 no_equals close = refl
 
-is_shorter : (t : Terminal) (ts rest : List Terminal) → Is t ts rest → length rest < length ts
+pub is_shorter : (t : Terminal) (ts rest : List Terminal) → Is t ts rest → length rest < length ts
 is_shorter t ts rest e = omega (arith, ap length e)
 
 pub expr_shorter : (limit : ℕ) (t : Tree) (ts rest : List Terminal) → IsExpr limit t ts rest → length rest ≤ length ts
@@ -472,7 +472,7 @@ gate_shorter limit op (declaration d n) ts rest h = absurd h
 gate_shorter limit op (wire n e) ts rest h = absurd h
 gate_shorter limit op (assign n e) ts rest h = absurd h
 
-label_shorter : (ts rest : List Terminal) → IsLabel ts rest → length rest ≤ length ts
+pub label_shorter : (ts rest : List Terminal) → IsLabel ts rest → length rest ≤ length ts
 label_shorter ts rest (inl e) = omega (arith, ap length e)
 label_shorter ts rest (inr (n, e)) = omega (arith, ap length e)
 
@@ -690,7 +690,7 @@ optional_shorter : (t : Terminal) (ts rest : List Terminal) → IsOptional t ts 
 optional_shorter t ts rest (inl e) = omega (arith, ap length e)
 optional_shorter t ts rest (inr e) = omega (arith, ap length e)
 
-head_shorter : (k : Kind) (ts rest : List Terminal) → IsHead k ts rest → length rest < length ts
+pub head_shorter : (k : Kind) (ts rest : List Terminal) → IsHead k ts rest → length rest < length ts
 head_shorter (Declaration d) ts rest (a, e, o) = omega (arith, is_shorter (word d) ts a e, optional_shorter (Mark WireWord) a rest o)
 head_shorter Wire ts rest e = is_shorter (Mark WireWord) ts rest e
 head_shorter Assign ts rest e = is_shorter (Mark AssignWord) ts rest e

@@ -10,6 +10,8 @@ pub mod Expressions
 pub mod ReadsExpressions
 pub mod Gives
 pub mod Parts
+pub mod Sizes
+pub mod Codes
 pub mod Repeats
 pub mod ReadsModules
 pub mod Grammar

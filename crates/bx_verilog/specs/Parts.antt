@@ -7,7 +7,6 @@ use Rattle.bx_verilog.specs.declared.tree.Direction.{Direction}
 use Rattle.bx_verilog.specs.declared.tree.Port.{Port}
 use Rattle.bx_verilog.specs.declared.tree.Part.{Part}
 use Rattle.bx_verilog.specs.declared.tree.Part.TheVariants.{Declaration, Wire, Assign, Gate, Copies}
-use Rattle.bx_verilog.specs.declared.tree.Module.{Module}
 use Rattle.bx_verilog.specs.Trees.{Tree, tree}
 
 -- what an item says between two commas
@@ -33,5 +32,6 @@ pub record ModuleTree : Type 0 where
   pub ports : List Port
   pub items : List (List PartTree)
 
-abbrev pub module_tree : Module → ModuleTree
-module_tree m = record { name = m.name; ports = m.ports.items; items = map parts m.items.items }
+-- the tree of what a module keeps
+abbrev pub module_tree : List ℕ → List Port → List (Vec Part Global) → ModuleTree
+module_tree name ports items = record { name = name; ports = ports; items = map parts items }

@@ -1,5 +1,5 @@
 //! Laws of the definitions that the contracts cite. Nothing here runs.
-ghost use Rattle.std.specs.Prelude.{◌≡◌, ℕ, List, codes, length};
+ghost use Rattle.std.specs.Prelude.{◌≡◌, ◌≤◌, ℕ, List, codes, length};
 ghost use Rattle.bx_logic.specs.declared.op.Op.TheVariants.{Buf, Not, And, Or, Nand, Nor, Xor, Xnor};
 ghost use Rattle.bx_verilog.specs.declared.reserved.TheConstants.{RESERVED};
 ghost use Rattle.bx_verilog.specs.declared.terminal.Mark.TheVariants.{Module, EndModule, Input, Output, Wire, Assign};
@@ -7,6 +7,7 @@ ghost use Rattle.bx_verilog.specs.declared.terminal.Terminal.{Terminal};
 ghost use Rattle.bx_verilog.specs.declared.terminal.Terminal.TheVariants.{Mark, Gate, Name, Other};
 ghost use Rattle.bx_verilog.specs.Terminals.{word_terminal};
 ghost use Rattle.bx_verilog.specs.Parts.{ModuleTree};
+ghost use Rattle.bx_verilog.specs.Sizes.{module_size};
 ghost use Rattle.bx_verilog.specs.Grammar.{IsModule};
 ghost use Rattle.bx_verilog.specs.Chain.{Chain, IsChain, spelling};
 
@@ -28,4 +29,9 @@ pub fn what_words_are()
     ensures gates { (word_terminal (codes "and") ≡ Gate And) × (word_terminal (codes "or") ≡ Gate Or) × (word_terminal (codes "nand") ≡ Gate Nand) × (word_terminal (codes "nor") ≡ Gate Nor) × (word_terminal (codes "xor") ≡ Gate Xor) × (word_terminal (codes "xnor") ≡ Gate Xnor) × (word_terminal (codes "buf") ≡ Gate Buf) × (word_terminal (codes "not") ≡ Gate Not) }
     ensures refused { (word_terminal (codes "inout") ≡ Other) × (word_terminal (codes "vectored") ≡ Other) × (length RESERVED ≡ 65) }
     ensures names { (word_terminal (codes "Module") ≡ Name (codes "Module")) × (word_terminal (codes "begin") ≡ Name (codes "begin")) }
+{}
+
+/// A module has no more names, operators and bits than its text has terminals.
+pub fn a_module_is_no_larger_than_its_text()
+    ensures { (limit : ℕ) (m : ModuleTree) (ts : List Terminal) → IsModule limit m ts → module_size m ≤ length ts }
 {}

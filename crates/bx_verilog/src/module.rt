@@ -1,5 +1,5 @@
 //! The reader of a module, from its first terminal to its last.
-ghost use Rattle.std.specs.Prelude.{◌≡◌};
+ghost use Rattle.std.specs.Prelude.{◌≡◌, ◌<◌, ◌^◌, length};
 ghost use Rattle.bx_verilog.specs.Parts.{module_tree};
 ghost use Rattle.bx_verilog.specs.ReadsModules.{at_end, module_at};
 ghost use Rattle.bx_verilog.specs.Gives.{Gives, GivesRest};
@@ -10,7 +10,8 @@ use crate::item::items;
 use crate::lookahead::{expect, name};
 use crate::stop::{Stop, Wanted};
 use crate::terminal::{Mark, Terminal};
-use crate::tree::Module;
+use crate::tree::{Module, Part, Port};
+use bx_logic::Name;
 use std::alloc::Global;
 use std::collections::VecDeque;
 
@@ -24,10 +25,13 @@ fn end(terminals: &VecDeque<Terminal>) -> Result<(), Stop>
     Err(Stop::Bad(terminals.len(), Wanted::End))
 }
 
-/// A module and nothing behind it.
+/// What a module keeps, with nothing behind it.
 #[tactic(auto, unfolding(crate::specs::ReadsModules::module_at))]
-pub fn module(alloc: Global, terminals: &mut VecDeque<Terminal>) -> Result<Module, Stop>
-    ensures { Gives module_tree terminals.new.items result (module_at DEEPEST terminals.old.items) }
+fn fields(
+    alloc: Global,
+    terminals: &mut VecDeque<Terminal>,
+) -> Result<(Name, Vec<Port>, Vec<Vec<Part>>), Stop>
+    ensures { Gives (λ m. module_tree m.0 m.1.items m.2.items) terminals.new.items result (module_at DEEPEST terminals.old.items) }
 {
     expect(terminals, Mark::Module)?;
     let name = name(terminals)?;
@@ -36,5 +40,14 @@ pub fn module(alloc: Global, terminals: &mut VecDeque<Terminal>) -> Result<Modul
     let items = items(alloc, terminals)?;
     expect(terminals, Mark::EndModule)?;
     end(terminals)?;
-    Ok(Module { name, ports, items })
+    Ok((name, ports, items))
+}
+
+/// A module and nothing behind it.
+pub fn module(alloc: Global, terminals: &mut VecDeque<Terminal>) -> Result<Module, Stop>
+    requires { length terminals.old.items < 2 ^ 32 }
+    ensures { Gives (λ m. m) terminals.new.items result (module_at DEEPEST terminals.old.items) }
+{
+    let (name, ports, items) = fields(alloc, terminals)?;
+    Ok(Module::new(name, ports, items))
 }

@@ -2,7 +2,7 @@
 //! where is as the reader of terminals stops; the contract says no more of it than that it is one.
 ghost use Rattle.std.specs.Prelude.{◌≡◌, ◌≢◌, ◌<◌, ◌≤◌, ◌^◌, ◌↔◌, length, IfSome, IfOk, MatchResult};
 ghost use Rattle.bx_lex.specs.Tokens.{HasTokens};
-ghost use Rattle.bx_verilog.specs.Parts.{ModuleTree, module_tree};
+ghost use Rattle.bx_verilog.specs.Parts.{ModuleTree};
 ghost use Rattle.bx_verilog.specs.Terminals.{terminals_of};
 ghost use Rattle.bx_verilog.specs.Grammar.{IsModule};
 
@@ -54,10 +54,11 @@ fn fault_of(text: &[u8], tokens: &Tokens, stop: Stop) -> ReadFault
 
 /// The tree of a text's tokens.
 fn tree_of(alloc: Global, text: &[u8], tokens: &Tokens) -> Result<Module, Stop>
-    requires { tokens.now.end ≡ length text.now }
-    ensures found { IfOk result (λ m. IsModule 256 (module_tree m) (terminals_of text.now tokens.now.tokens)) }
+    requires whole { tokens.now.end ≡ length text.now }
+    requires few { length tokens.now.tokens < 2 ^ 32 }
+    ensures found { IfOk result (λ m. IsModule 256 m (terminals_of text.now tokens.now.tokens)) }
     ensures only { (m : ModuleTree) → IsModule 256 m (terminals_of text.now tokens.now.tokens) →
-        MatchResult result (λ x. module_tree x ≡ m) (λ e. e ≡ Stop.NoMemory) }
+        MatchResult result (λ x. x ≡ m) (λ e. e ≡ Stop.NoMemory) }
 {
     let mut terminals = terminals(alloc, text, tokens)?;
     module(alloc, &mut terminals)
@@ -72,10 +73,10 @@ pub fn read_module(alloc: Global, text: &[u8], tokens: &Tokens) -> Result<Module
     requires of_text { HasTokens text.now tokens.now }
     requires short { length text.now < 2 ^ 32 }
     // What is answered is the tree of the tokens, in which nothing nests deeper than 256.
-    ensures found { IfOk result (λ m. IsModule 256 (module_tree m) (terminals_of text.now tokens.now.tokens)) }
+    ensures found { IfOk result (λ m. IsModule 256 m (terminals_of text.now tokens.now.tokens)) }
     // Where the tokens have such a tree it is answered, unless memory runs out.
     ensures only { (m : ModuleTree) → IsModule 256 m (terminals_of text.now tokens.now.tokens) →
-        MatchResult result (λ x. module_tree x ≡ m) (λ e. e ≡ ReadFault.NoMemory) }
+        MatchResult result (λ x. x ≡ m) (λ e. e ≡ ReadFault.NoMemory) }
 {
     laws::tokens_stand_in_order();
     match tree_of(alloc, text, tokens) {

@@ -1,4 +1,5 @@
 use super::*;
+use crate::tree::{Expr, Part};
 use bx_lex::read_tokens;
 use std::alloc::{AllocError, Global};
 use std::test::Fail;
@@ -215,5 +216,25 @@ fn nesting(rt: HostRuntime) -> Result<(), Fail> {
         let found = fault(rt.alloc(), text.as_bytes())?;
         assert_eq!(rt; found, *wanted);
     }
+    Ok(())
+}
+
+#[test]
+fn kept(rt: HostRuntime) -> Result<(), Fail> {
+    let text = b"module m(a, y); input a; output y; assign y = a; endmodule";
+    let Ok(tokens) = read_tokens(rt.alloc(), text) else {
+        return Err("the text has tokens".into());
+    };
+    let Ok(module) = read_module(rt.alloc(), text, &tokens) else {
+        return Err("the text is a module".into());
+    };
+    assert_eq!(rt; module.name().as_slice(), b"m".as_slice());
+    assert_eq!(rt; module.ports().len(), 2);
+    assert_eq!(rt; module.items().len(), 3);
+    let [Part::Assign(target, Expr::Net(source))] = module.items()[2].as_slice() else {
+        return Err("the last item is one assignment of a net".into());
+    };
+    assert_eq!(rt; target.as_slice(), b"y".as_slice());
+    assert_eq!(rt; source.as_slice(), b"a".as_slice());
     Ok(())
 }

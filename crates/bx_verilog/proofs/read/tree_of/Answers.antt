@@ -2,14 +2,13 @@ use Rattle.std.proofs.Common.{◌∙◌, sym, subst, List}
 use Rattle.std.specs.Prelude.{IfOk}
 use Rattle.std.proofs.lemmas.Result.{err_from_is_err_and}
 use Rattle.bx_verilog.specs.declared.terminal.Terminal.{Terminal}
-use Rattle.bx_verilog.specs.Parts.{module_tree}
 use Rattle.bx_verilog.specs.Grammar.{IsModule}
 use Rattle.bx_verilog.proofs.ModuleSteps.{module_found, module_only}
 use Rattle.bx_verilog.proofs.read.tree_of.Goals as goal
 
 pub returns-clause-found : goal.returns-clause-found
 returns-clause-found c =
-    subst (λ (ts : List Terminal). IfOk c.module.result (λ m. IsModule 256 (module_tree m) ts)) c.in_ok-terminals.ensures.found
+    subst (λ (ts : List Terminal). IfOk c.module.result (λ m. IsModule 256 m ts)) c.in_ok-terminals.ensures.found
     (module_found c.module.result _ _ c.module.ensures)
 
 pub returns-clause-only : goal.returns-clause-only

@@ -2,9 +2,9 @@
 use Rattle.std.proofs.Common.{◌≡◌, List, Option, Some, None, sym, ◌∙◌, ap, refl}
 use Rattle.std.specs.Prelude.{String, option_and_then}
 use Rattle.bx_desk.specs.Desk.{Files}
-use Rattle.bx_verilog.specs.Module.{Text}
-use Rattle.bx_verilog.specs.Chain.{Chain, IsChain, spelling}
-use Rattle.bx_verilog.proofs.Whole.{chain_once}
+use Rattle.bx_syntax.specs.Module.{Text}
+use Rattle.bx_syntax.specs.Chain.{Chain, IsChain, spelling}
+use Rattle.bx_syntax.proofs.Whole.{chain_once}
 use Rattle.bx_engine.specs.declared.status.Status.{Status}
 use Rattle.bx_engine.specs.declared.status.Status.TheVariants.{Found}
 use Rattle.bx_engine.specs.Runs.{net_word, net_text, layout_of, report_of, HasText, IsAnswer, no_command, no_form, laid_out}

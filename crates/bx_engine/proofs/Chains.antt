@@ -8,9 +8,9 @@ use Rattle.std.proofs.lemmas.List.Sums.{sum_by-cons}
 use Rattle.std.proofs.lemmas.Slice.Eq.{bytes_eq-Decides}
 use Rattle.bx_logic.specs.declared.op.Op.TheVariants.{Buf, Not}
 use Rattle.bx_logic.specs.Op.{op_value}
-use Rattle.bx_verilog.specs.Module.{Text, Equation, Module, Assignment, Meets, Gives}
+use Rattle.bx_syntax.specs.Module.{Text, Equation, Module, Assignment, Meets, Gives}
 use Rattle.bx_logic.specs.Lists.{AreDistinct}
-use Rattle.bx_verilog.specs.Chain.{Chain, Statement, IsChain, IsUnary, Follows, last_net, targets, is_not, inversions, equation_of, module_of}
+use Rattle.bx_syntax.specs.Chain.{Chain, Statement, IsChain, IsUnary, Follows, last_net, targets, is_not, inversions, equation_of, module_of}
 use Rattle.bx_engine.specs.Grids.{IsUsed}
 use Rattle.bx_engine.specs.ChainNetworks.{inverted}
 

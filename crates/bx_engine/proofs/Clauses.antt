@@ -2,9 +2,9 @@
 use Rattle.std.proofs.Common.{◌≡◌, ℕ, List, Option, Some, None, sym, ◌∙◌, ap, subst, refl}
 use Rattle.std.specs.Prelude.{String, option_and_then}
 use Rattle.bx_desk.specs.Desk.{Files, Counts, Adds, AddsFront}
-use Rattle.bx_verilog.specs.Module.{Text}
-use Rattle.bx_verilog.specs.Chain.{Chain, IsChain, spelling, inversions, module_of}
-use Rattle.bx_verilog.proofs.Whole.{chain_once}
+use Rattle.bx_syntax.specs.Module.{Text}
+use Rattle.bx_syntax.specs.Chain.{Chain, IsChain, spelling, inversions, module_of}
+use Rattle.bx_syntax.proofs.Whole.{chain_once}
 use Rattle.bx_engine.specs.declared.grid.Ratio.{Ratio}
 use Rattle.bx_engine.specs.declared.status.Status.{Status}
 use Rattle.bx_engine.specs.declared.status.Status.TheVariants.{Found, WriteFault}

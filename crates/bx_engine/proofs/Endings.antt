@@ -6,7 +6,7 @@ use Rattle.bx_desk.specs.Desk.{Files, Counts, Rose, Adds, AddsUpTo}
 use Rattle.bx_desk.specs.Pieces.{HandsOn}
 use Rattle.bx_desk.specs.declared.desk.Failed.{Failed}
 use Rattle.bx_desk.proofs.Said.{adds_piece, adds_front}
-use Rattle.bx_verilog.specs.Module.{Text}
+use Rattle.bx_syntax.specs.Module.{Text}
 use Rattle.bx_engine.specs.declared.status.Status.{Status}
 use Rattle.bx_engine.specs.declared.status.Status.TheVariants.{WriteFault}
 use Rattle.bx_engine.specs.declared.status.Which.TheVariants.{Output}

@@ -6,7 +6,7 @@ use Rattle.std.proofs.lemmas.List.{get_or-take}
 use Rattle.bx_engine.specs.declared.forms.Kind.TheVariants.{Input, Output}
 use Rattle.bx_engine.specs.declared.forms.Side.{Side}
 use Rattle.bx_engine.specs.declared.forms.Side.TheVariants.{Left, Right}
-use Rattle.bx_verilog.specs.Module.{Text, Assignment, Gives}
+use Rattle.bx_syntax.specs.Module.{Text, Assignment, Gives}
 use Rattle.bx_engine.specs.Forms.{opposite, shape_holds}
 use Rattle.bx_engine.specs.Tiles.{y_of, above, below, border}
 use Rattle.bx_engine.specs.Grids.{shape_in, takes, sends, sends_from, Holds, IsEmpty, IsSound, sent, IsBorderValuation, IsOnlyBorderValuation, Computes, FormGrid, given_at}

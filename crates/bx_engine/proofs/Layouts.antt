@@ -1,7 +1,7 @@
 -- The column of a chain computes the module of the chain.
 use Rattle.std.proofs.Common.{ℕ, ◌+◌, Bool, List, [], inl, refl, sym, subst, arith}
-use Rattle.bx_verilog.specs.Module.{Gives}
-use Rattle.bx_verilog.specs.Chain.{Chain, IsChain, inversions, module_of}
+use Rattle.bx_syntax.specs.Module.{Gives}
+use Rattle.bx_syntax.specs.Chain.{Chain, IsChain, inversions, module_of}
 use Rattle.bx_engine.specs.Tiles.{tile_count}
 use Rattle.bx_engine.specs.Grids.{given_at, Computes, ArePins}
 use Rattle.bx_engine.specs.Columns.{column, column_pins}

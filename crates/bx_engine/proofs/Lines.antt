@@ -6,8 +6,8 @@ use Rattle.std.proofs.lemmas.List.Concat.{flat_map-append}
 use Rattle.std.proofs.lemmas.List.FromFn.{length-map-range_with_len}
 use Rattle.std.specs.List.{flat_map, range_with_len}
 use native.Mathlib.Nat.{mod-one, div-one}
-use Rattle.bx_verilog.specs.Module.{Text}
-use Rattle.bx_verilog.specs.declared.chain.Chain.{Chain}
+use Rattle.bx_syntax.specs.Module.{Text}
+use Rattle.bx_syntax.specs.declared.chain.Chain.{Chain}
 use Rattle.bx_engine.specs.declared.say.Word.{Word}
 use Rattle.bx_engine.specs.Words.{word_text, further_text}
 use Rattle.bx_engine.specs.Texts.{spaced, lines_text, module_line, nodes_line, found_line, pin_line, row_line, tile_name, report_text}

@@ -1,8 +1,8 @@
 -- The network of a chain computes the chain's module.
 use Rattle.std.proofs.Common.{◌≡◌, ℕ, zero, suc, ◌+◌, min, Bool, [], ◌∷◌, ◌++◌, replicate, Some, sym, ◌∙◌, ap, subst, refl, arith}
 use Rattle.std.specs.Prelude.{slice_get, slice_index_or}
-use Rattle.bx_verilog.specs.Module.{Text, Assignment, Gives}
-use Rattle.bx_verilog.specs.Chain.{Chain, IsChain, inversions, module_of}
+use Rattle.bx_syntax.specs.Module.{Text, Assignment, Gives}
+use Rattle.bx_syntax.specs.Chain.{Chain, IsChain, inversions, module_of}
 use Rattle.bx_engine.specs.declared.forms.Kind.TheVariants.{Input, Output, Not}
 use Rattle.bx_engine.specs.Networks.{Node, IsValuation}
 use Rattle.bx_engine.specs.ChainNetworks.{chain_network, not_node, output_node, inverted}

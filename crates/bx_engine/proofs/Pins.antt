@@ -1,7 +1,7 @@
 -- The names of the input pins are those of the used inputs.
 use Rattle.std.proofs.Common.{◌≢◌, ◌↔◌, List, [], ◌∷◌, Contains, inl, inr, sym, subst}
 use Rattle.std.specs.List.{AllByRecursion}
-use Rattle.bx_verilog.specs.Module.{Text, Module}
+use Rattle.bx_syntax.specs.Module.{Text, Module}
 use Rattle.bx_logic.specs.Lists.{AreDistinct}
 use Rattle.bx_engine.specs.Grids.{FormGrid, Pins, pin_names, IsUsed, AreUsed, ArePins}
 use Rattle.bx_engine.proofs.Ascending.{Member, Contains-from_member, Member-from_contains, AllByRecursion-from_member, member_of_AllByRecursion}

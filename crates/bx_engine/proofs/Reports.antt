@@ -7,9 +7,9 @@ use Rattle.std.proofs.lemmas.List.{map-append, ext_get_or, get_or-take, get_or-d
 use Rattle.std.proofs.lemmas.List.FromFn.{get_or-map-range_with_len}
 use Rattle.std.proofs.lemmas.Nat.{div-add-mod', rows}
 use Rattle.std.specs.Char.{is_ascii_alphanumeric}
-use Rattle.bx_verilog.specs.Module.{Text}
-use Rattle.bx_verilog.specs.Chain.{Chain, IsChain, IsName, inversions}
-use Rattle.bx_verilog.proofs.Whole.{ports_named}
+use Rattle.bx_syntax.specs.Module.{Text}
+use Rattle.bx_syntax.specs.Chain.{Chain, IsChain, IsName, inversions}
+use Rattle.bx_syntax.proofs.Whole.{ports_named}
 use Rattle.bx_engine.specs.Columns.{column, column_pins}
 use Rattle.bx_engine.proofs.Columns.{column-whole}
 use Rattle.bx_engine.specs.declared.grid.Ratio.{Ratio}

@@ -2,10 +2,10 @@
 use Rattle.std.proofs.Common.{◌≡◌, ℕ, ◌+◌, List, [], ◌∷◌, Option, Some, None, refl, sym, ◌∙◌, ap, subst}
 use Rattle.std.specs.Prelude.{String, IfSome, IsSome, option_and_then}
 use Rattle.bx_desk.specs.Desk.{Files, Counts, Rose, IsFile}
-use Rattle.bx_verilog.specs.Module.{Text}
-use Rattle.bx_verilog.specs.Chain as written
-use Rattle.bx_verilog.specs.Reads.{Shows}
-use Rattle.bx_verilog.specs.declared.chain.Chain.{Chain}
+use Rattle.bx_syntax.specs.Module.{Text}
+use Rattle.bx_syntax.specs.Chain as written
+use Rattle.bx_syntax.specs.Reads.{Shows}
+use Rattle.bx_syntax.specs.declared.chain.Chain.{Chain}
 use Rattle.bx_engine.specs.declared.status.Status.{Status}
 use Rattle.bx_engine.specs.declared.status.Status.TheVariants.{Found}
 use Rattle.bx_engine.specs.Grids.{FormGrid}

@@ -1,7 +1,7 @@
 -- The layout of a chain in one column: its input, a tile for each inversion, its output.
 use Rattle.std.specs.Prelude.{◌==◌, ℕ, ◌+◌, if◌then◌else◌, nat_le, List, [], ◌∷◌, map, Option, Some}
 use Rattle.std.specs.List.{range_with_len}
-use Rattle.bx_verilog.specs.Chain.{Chain, inversions}
+use Rattle.bx_syntax.specs.Chain.{Chain, inversions}
 use Rattle.bx_engine.specs.Tiles.{is_odd}
 use Rattle.bx_engine.specs.Grids.{FormGrid, Pins}
 

@@ -1,10 +1,10 @@
 -- How the steps of a run end.
 use Rattle.std.specs.Prelude.{◌≡◌, ℕ, List, Option, Some, IfSome, ⊤}
 use Rattle.bx_desk.specs.Desk.{Files, Counts, Rose, SayCounts, Adds, AddsFront, IsFile}
-use Rattle.bx_verilog.specs.Module.{Text}
-use Rattle.bx_verilog.specs.Chain as written
-use Rattle.bx_verilog.specs.Reads.{Shows}
-use Rattle.bx_verilog.specs.declared.chain.Chain.{Chain}
+use Rattle.bx_syntax.specs.Module.{Text}
+use Rattle.bx_syntax.specs.Chain as written
+use Rattle.bx_syntax.specs.Reads.{Shows}
+use Rattle.bx_syntax.specs.declared.chain.Chain.{Chain}
 use Rattle.bx_engine.specs.declared.status.Status.{Status}
 use Rattle.bx_engine.specs.declared.status.Status.TheVariants.{WriteFault}
 use Rattle.bx_engine.specs.declared.status.Which.TheVariants.{Output}

@@ -1,8 +1,8 @@
 -- Small grids that the laws speak of: one that is right, and some that are nearly so.
 use Rattle.std.specs.Prelude.{◌≡◌, ◌&&◌, ℕ, ◌+◌, Bool, false, List, [], ◌∷◌, Some, None, take}
 use Rattle.bx_logic.specs.declared.op.Op.TheVariants.{Not, And}
-use Rattle.bx_verilog.specs.Module.{Text, Module}
-use Rattle.bx_verilog.specs.Chain.{Chain, inversions}
+use Rattle.bx_syntax.specs.Module.{Text, Module}
+use Rattle.bx_syntax.specs.Chain.{Chain, inversions}
 use Rattle.bx_engine.specs.Grids.{FormGrid, Pins, reads}
 use Rattle.bx_engine.specs.Columns.{input_r, output_l, output_r, not_ll, column_tiles}
 

@@ -3,7 +3,7 @@ use Rattle.std.specs.Prelude.{◌≡◌, ◌==◌, ℕ, ◌+◌, ◌*◌, ◌<�
 use Rattle.std.specs.List.{AllByRecursion}
 use Rattle.bx_logic.specs.Op.{first_value}
 use Rattle.bx_logic.specs.Lists.{AreDistinct}
-use Rattle.bx_verilog.specs.Module.{Text, Equation, Module, Assignment, Gives}
+use Rattle.bx_syntax.specs.Module.{Text, Equation, Module, Assignment, Gives}
 use Rattle.bx_engine.specs.declared.grid.Ratio.{Ratio}
 use Rattle.bx_engine.specs.declared.forms.Kind.{Kind}
 use Rattle.bx_engine.specs.declared.forms.Kind.TheVariants.{Input, Output}

@@ -1,8 +1,8 @@
 -- A report as it is put out, line by line.
 use Rattle.std.specs.Prelude.{◌+◌, [], ◌∷◌, ◌++◌, map, flat_map, codes}
 use Rattle.std.specs.List.{range_with_len}
-use Rattle.bx_verilog.specs.Module.{Text}
-use Rattle.bx_verilog.specs.declared.chain.Chain.{Chain}
+use Rattle.bx_syntax.specs.Module.{Text}
+use Rattle.bx_syntax.specs.declared.chain.Chain.{Chain}
 use Rattle.bx_engine.specs.Grids.{FormGrid, Pins}
 use Rattle.bx_engine.specs.ChainNetworks.{chain_network}
 use Rattle.bx_engine.specs.Columns.{column}

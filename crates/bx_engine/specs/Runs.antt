@@ -2,8 +2,8 @@
 use Rattle.std.specs.Prelude.{◌≡◌, List, [], ◌∷◌, codes, Option, Some, None, IsSome, IfSome, option_and_then, if◌then◌else◌, String, string_bytes}
 use Rattle.std.specs.Str.{bytes_eq}
 use Rattle.bx_desk.specs.Desk.{Files}
-use Rattle.bx_verilog.specs.Module.{Text, Module}
-use Rattle.bx_verilog.specs.Chain.{Chain, IsChain, spelling, inversions}
+use Rattle.bx_syntax.specs.Module.{Text, Module}
+use Rattle.bx_syntax.specs.Chain.{Chain, IsChain, spelling, inversions}
 use Rattle.bx_engine.specs.declared.grid.Ratio.{Ratio}
 use Rattle.bx_engine.specs.declared.grid.TheConstants.{DEFAULT_LIMITS}
 use Rattle.bx_engine.specs.Grids.{FormGrid, Pins, IsFormGrid, IsSound, ArePins, Computes}

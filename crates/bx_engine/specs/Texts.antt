@@ -1,7 +1,7 @@
 -- What is said, as lines: the report of a layout, and the line of a refusal.
 use Rattle.std.specs.Prelude.{ℕ, List, [], ◌∷◌, ◌++◌, ◌≢◌, ◌<◌, ◌^◌, length, map, flat_map, codes, decimal, Option, None, Some, unwrap_or}
 use Rattle.std.specs.List.{range_with_len, AllByRecursion}
-use Rattle.bx_verilog.specs.Module.{Text}
+use Rattle.bx_syntax.specs.Module.{Text}
 use Rattle.bx_engine.specs.declared.grid.Ratio.{Ratio}
 use Rattle.bx_engine.specs.declared.status.InputFault.{InputFault}
 use Rattle.bx_engine.specs.declared.status.InputFault.TheVariants.{NotBuilt}

@@ -5,8 +5,8 @@
 //! fault of the desk, which in turn come only where the desk's count of such faults rose.
 ghost use Rattle.std.specs.Prelude.{◌≡◌, ◌⊎◌, ℕ, List, Some, None, Option, ◌≤◌, IfOk, IfErr, OnOk, IsSome, option_map};
 ghost use Rattle.bx_desk.specs.Desk.{Rose, LoadCounts, Adds, AddsFront};
-ghost use Rattle.bx_verilog.specs.Module.{Text};
-ghost use Rattle.bx_verilog.specs.Chain.{Chain as Written, IsChain, spelling, module_of, most_inversions};
+ghost use Rattle.bx_syntax.specs.Module.{Text};
+ghost use Rattle.bx_syntax.specs.Chain.{Chain as Written, IsChain, spelling, module_of, most_inversions};
 ghost use Rattle.bx_desk.specs.Pieces.{pending};
 ghost use Rattle.bx_engine.specs.Columns.{column as column_of};
 ghost use Rattle.bx_engine.specs.Reports.{report_shown};
@@ -27,7 +27,7 @@ use crate::say::{Word, put_line};
 use crate::status::{InputFault, Status, Which, WordFault};
 use bx_desk::{Desk, Failed, Gate, LoadFault, Piece};
 use bx_logic::NoMemory;
-use bx_verilog::{Chain, ChainFault, read_chain};
+use bx_syntax::{Chain, ChainFault, read_chain};
 use std::alloc::Global;
 use std::thread::Threads;
 

@@ -3,7 +3,7 @@
 //! the module is for others to prove.
 ghost use Rattle.std.specs.Prelude.{◌≡◌, ◌++◌, ◌≤◌, [], ◌∷◌, flat_map, codes, decimal, map};
 ghost use Rattle.bx_desk.specs.Pieces.{pending};
-ghost use Rattle.bx_verilog.specs.Chain.{most_inversions};
+ghost use Rattle.bx_syntax.specs.Chain.{most_inversions};
 ghost use Rattle.bx_engine.specs.Says.{Says};
 ghost use Rattle.bx_engine.specs.Grids.{FormGrid as Grid};
 ghost use Rattle.bx_engine.specs.Columns.{column};
@@ -14,7 +14,7 @@ use crate::forms::Form;
 use crate::grid::FormGrid;
 use crate::say::{Word, put_line, put_spaced, put_word};
 use bx_desk::{Desk, Failed, Piece};
-use bx_verilog::Chain;
+use bx_syntax::Chain;
 
 /// Puts out the report of a chain that is laid out in this column.
 pub fn put_report<D: Desk>(

@@ -5,7 +5,7 @@
 ghost use Rattle.bx_lex.specs.Tokens.{HasTokens};
 
 use bx_lex::{Tokens, read_tokens};
-use bx_verilog::read_module;
+use bx_syntax::read_module;
 use std::process::ExitCode;
 use std::{env, fs, io};
 

@@ -1,54 +1,22 @@
-//! Why a text is refused as a module, or as one of the first form.
-ghost use Rattle.std.specs.Prelude.{◌≡◌};
-ghost use Rattle.bx_verilog.specs.declared.fault.ChainFault.TheVariants.{NoMemory as OutOfMemory};
+//! What can be wrong with a module that is in the grammar. Which fault is the first is in the
+//! definitions beside the contracts.
 
-use bx_logic::NoMemory;
-use thiserror::Error;
+use bx_logic::Name;
 
-/// Why a text is refused.
-#[derive(Debug, Drop, Error)]
-pub enum ChainFault {
-    /// The text isn't of the first form.
-    #[error("no chain of not and buf")]
-    NotAChain,
-    /// Memory was refused, whatever the text is.
-    #[error("out of memory")]
-    NoMemory,
-}
-
-impl From<NoMemory> for ChainFault {
-    ghost from_gives = { λ _ e. e ≡ OutOfMemory };
-
-    fn from(_error: NoMemory) -> ChainFault {
-        ChainFault::NoMemory
-    }
-}
-
-/// A construct of the language that the profile doesn't take.
-#[derive(Clone, Copy, Debug, PartialEq, Eq)]
-pub enum Construct {
-    Vector,
-    Ternary,
-    Delay,
-    Concat,
-    Operator,
-    Directive,
-    Instance,
-    Second,
-    Number,
-    Reserved,
-}
-
-/// Why a list of tokens is refused as a module. A place is counted in bytes from 0; the end of the
-/// text is the text's length.
-#[derive(Clone, Copy, Debug, PartialEq, Eq)]
-pub enum ReadFault {
-    /// The token at this place may not stand there.
-    Syntax(u64),
-    /// The token at this place is of a construct that isn't taken.
-    NotTaken(u64, Construct),
-    /// The `~` or `(` at this place nests too deep.
-    TooDeep(u64),
+/// Why a module has no net. The faults come in this order, and of one kind that of the least-numbered
+/// name comes first.
+#[derive(Debug, Drop)]
+pub enum NetFault {
+    /// The name stands twice in the header, or has two directions, or one of the two alone.
+    BadPort(Name),
+    /// No port is an output.
+    NoOutput,
+    /// Two things drive the name.
+    TwoDrivers(Name),
+    /// The name is read or is an output, and nothing drives it.
+    NoDriver(Name),
+    /// The name depends on itself.
+    Cycle(Name),
     /// Memory was refused.
     NoMemory,
 }

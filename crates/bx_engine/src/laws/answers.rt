@@ -2,7 +2,7 @@
 ghost use Rattle.std.specs.Prelude.{◌≡◌, List, [], ◌∷◌, codes, Option, Some, None, String, string_bytes};
 ghost use Rattle.std.specs.declared.alloc.Global.{Global};
 ghost use Rattle.bx_desk.specs.Desk.{Files};
-ghost use Rattle.bx_verilog.specs.Module.{Text};
+ghost use Rattle.bx_syntax.specs.Module.{Text};
 ghost use Rattle.bx_engine.specs.declared.status.Status.{Status};
 ghost use Rattle.bx_engine.specs.Statuses.{IsSettled};
 ghost use Rattle.bx_engine.specs.Runs.{net_word, net_text, IsAnswer};

@@ -3,8 +3,8 @@
 //! definitions refuse. Nothing here runs.
 ghost use Rattle.std.specs.Prelude.{◌≡◌, ◌≢◌, ◌==◌, ◌<◌, ◌↔◌, ℕ, ◌+◌, ◌%◌, Bool, true, false, if◌then◌else◌, List, [], ◌∷◌, ◌++◌, replicate, codes, Contains};
 ghost use Rattle.bx_logic.specs.Lists.{AreDistinct};
-ghost use Rattle.bx_verilog.specs.Module.{Text, Module};
-ghost use Rattle.bx_verilog.specs.Chain.{Chain, IsChain, inversions, module_of};
+ghost use Rattle.bx_syntax.specs.Module.{Text, Module};
+ghost use Rattle.bx_syntax.specs.Chain.{Chain, IsChain, inversions, module_of};
 ghost use Rattle.bx_engine.specs.declared.grid.Ratio.{Ratio};
 ghost use Rattle.bx_engine.specs.declared.forms.Side.{Side};
 ghost use Rattle.bx_engine.specs.Forms.{form_name, opposite};

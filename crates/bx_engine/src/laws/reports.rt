@@ -1,8 +1,8 @@
 //! A report can be read back: what it says of a layout it says of no other, and no refusal reads as
 //! one. Nothing here runs.
 ghost use Rattle.std.specs.Prelude.{◌≡◌, ◌<◌, ◌^◌, length};
-ghost use Rattle.bx_verilog.specs.Module.{Text};
-ghost use Rattle.bx_verilog.specs.Chain.{Chain, IsChain, inversions};
+ghost use Rattle.bx_syntax.specs.Module.{Text};
+ghost use Rattle.bx_syntax.specs.Chain.{Chain, IsChain, inversions};
 ghost use Rattle.bx_engine.specs.Columns.{column, column_pins};
 ghost use Rattle.bx_engine.specs.Grids.{FormGrid, Pins};
 ghost use Rattle.bx_engine.specs.Networks.{Network};

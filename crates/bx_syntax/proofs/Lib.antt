@@ -1,0 +1,6 @@
+pub mod ReadsExpressions
+pub mod Repeats
+pub mod ReadsModules
+pub mod Mapped
+pub mod ModuleSteps
+pub mod Sizes

@@ -1,0 +1,21 @@
+use Rattle.std.proofs.Common.{arith}
+use Rattle.bx_syntax.proofs.Sizes.{spans_fit}
+use Rattle.bx_syntax.proofs.read.read_module.Goals as goal
+
+pub tree_of-requires-clause-whole : goal.tree_of-requires-clause-whole
+tree_of-requires-clause-whole c = c.tokens_stand_in_order.ensures.whole _ _ c.requires.of_text
+
+pub tree_of-requires-clause-few : goal.tree_of-requires-clause-few
+tree_of-requires-clause-few c =
+    omega (
+      arith,
+      spans_fit 0 _ _ (c.tokens_stand_in_order.ensures.spans _ _ c.requires.of_text),
+      c.tokens_stand_in_order.ensures.whole _ _ c.requires.of_text,
+      c.requires.short,
+    )
+
+pub fault_of-requires : goal.fault_of-requires
+fault_of-requires c = c.tokens_stand_in_order.ensures.whole _ _ c.requires.of_text
+
+pub returns-in-Err-clause-only : goal.returns-in-Err-clause-only
+returns-in-Err-clause-only c m is = c.fault_of.ensures.1 (c.in-Err.ensures.only m is)

@@ -1,0 +1,13 @@
+pub use Rattle.bx_logic.specs.Op
+pub mod Trees
+pub mod Expressions
+pub mod ReadsExpressions
+pub mod Gives
+pub mod Parts
+pub mod Sizes
+pub mod Codes
+pub mod Repeats
+pub mod ReadsModules
+pub mod Grammar
+pub mod Terminals
+pub mod Texts

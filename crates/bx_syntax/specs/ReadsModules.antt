@@ -1,0 +1,192 @@
+-- Reading a module, from its first terminal to its last.
+use Rattle.std.specs.Prelude.{ℕ, Bool, true, false, not, ◌&&◌, if◌then◌else◌, List, [], ◌∷◌, Option, Some, None}
+use Rattle.std.specs.Option.{is_some}
+use Rattle.bx_logic.specs.declared.op.Op.{Op}
+use Rattle.bx_logic.specs.declared.op.Op.TheVariants.{Buf, Not}
+use Rattle.bx_syntax.specs.declared.terminal.Terminal.{Terminal}
+use Rattle.bx_syntax.specs.declared.terminal.Terminal.TheVariants.{Mark, Gate as GateWord, Name}
+use Rattle.bx_syntax.specs.declared.terminal.Mark.{Mark as Sign}
+use Rattle.bx_syntax.specs.declared.terminal.Mark.TheVariants.{Module as ModuleWord, EndModule, Input as InputWord, Output as OutputWord, Wire as WireWord, Assign as AssignWord, Open, Close, Comma, Semicolon, Equals}
+use Rattle.bx_syntax.specs.declared.tree.Direction.{Direction}
+use Rattle.bx_syntax.specs.declared.tree.Direction.TheVariants.{Input, Output}
+use Rattle.bx_syntax.specs.declared.tree.Port.{Port}
+use Rattle.bx_syntax.specs.declared.part.Kind.{Kind}
+use Rattle.bx_syntax.specs.declared.part.Kind.TheVariants.{Declaration, Wire, Assign, Gate}
+use Rattle.bx_syntax.specs.Trees.{Tree, net}
+use Rattle.bx_syntax.specs.Parts.{PartTree, declaration, wire, assign, gate, copies, ModuleTree}
+use Rattle.bx_syntax.specs.ReadsExpressions.{Reader, ◌>>=◌, behind, expr_at}
+use Rattle.bx_syntax.specs.Repeats.{repeated, ahead_of}
+
+abbrev pub next_is : Sign → List Terminal → Bool
+next_is s ts = is_some (behind s ts)
+
+abbrev pub name_at : Reader (List ℕ)
+name_at (Name n ∷ ts) = Some (n, ts)
+name_at _ = None
+
+-- the same list, or what stands behind its first terminal if this one is a mark, or a name
+abbrev pub past : Sign → List Terminal → List Terminal
+past s (Mark r ∷ ts) = if next_is s (Mark r ∷ ts) then ts else Mark r ∷ ts
+past s ts = ts
+
+abbrev pub past_name : List Terminal → List Terminal
+past_name (Name n ∷ ts) = ts
+past_name ts = ts
+
+abbrev pub comma_next : Unit {0} → List Terminal → Bool
+comma_next s ts = next_is Comma ts
+
+-- behind a comma, what is read so
+abbrev pub comma_step : {A : Type 0} → Reader A → Unit {0} → Reader (A × Unit {0})
+comma_step p s ts = behind Comma ts >>= λ r. p r >>= λ x. Some ((x.0, s), x.1)
+
+-- x { ',' x }
+abbrev pub listed_at : {A : Type 0} → Reader A → Reader (List A)
+listed_at p ts = p ts >>= λ x. ahead_of (x.0 ∷ []) (repeated comma_next (comma_step p) tt x.1) >>= λ y. Some (y.0.0, y.1)
+
+abbrev pub is_net : Tree → Bool
+is_net (net n) = true
+is_net _ = false
+
+abbrev pub net_name : Tree → List ℕ
+net_name (net n) = n
+net_name _ = []
+
+-- behind a name that was read as an expression, a comma and the next one
+abbrev pub comma_behind_net : Tree → List Terminal → Bool
+comma_behind_net t ts = next_is Comma ts && is_net t
+
+-- what the first word of an item says
+abbrev pub kind_of : Sign → Option Kind
+kind_of InputWord = Some (Declaration Input)
+kind_of OutputWord = Some (Declaration Output)
+kind_of WireWord = Some Wire
+kind_of AssignWord = Some Assign
+kind_of _ = None
+
+-- behind that word, what may be left out
+abbrev pub past_wire : Kind → List Terminal → List Terminal
+past_wire (Declaration d) ts = past WireWord ts
+past_wire _ ts = ts
+
+abbrev pub kind_at : Reader Kind
+kind_at (GateWord op ∷ ts) = Some (Gate op, ts)
+kind_at (Mark s ∷ ts) = kind_of s >>= λ k. Some (k, past_wire k ts)
+kind_at _ = None
+
+abbrev pub item_next : Unit {0} → List Terminal → Bool
+item_next s [] = false
+item_next s (t ∷ ts) = not (next_is EndModule (t ∷ ts))
+
+-- a port: a name alone has the direction of the port before it, if that one has a direction
+abbrev pub directed : Direction → Reader Port
+directed d ts = name_at (past WireWord ts) >>= λ n. Some (record { name = n.0; direction = Some d }, n.1)
+
+abbrev pub direction_of : Sign → Option Direction
+direction_of InputWord = Some Input
+direction_of OutputWord = Some Output
+direction_of _ = None
+
+abbrev pub port_at : Bool → Option Direction → Reader Port
+port_at words d (Name n ∷ ts) = Some (record { name = n; direction = d }, ts)
+port_at words d (Mark s ∷ ts) = if words then (direction_of s >>= λ e. directed e ts) else None
+port_at words d _ = None
+
+abbrev pub comma_port : Option Direction → Reader (Port × Option Direction)
+comma_port d ts = behind Comma ts >>= λ r. port_at (is_some d) d r >>= λ p. Some ((p.0, p.0.direction), p.1)
+
+abbrev pub port_next : Option Direction → List Terminal → Bool
+port_next d ts = next_is Comma ts
+
+unfoldable pub ports_at : Reader (List Port)
+ports_at ts = do
+  p ← port_at true None ts
+  ps ← ahead_of (p.0 ∷ []) (repeated port_next comma_port p.0.direction p.1)
+  Some (ps.0.0, ps.1)
+
+unfoldable pub header_at : Reader (List Port)
+header_at ts =
+    if next_is Open ts
+    then (behind Open ts >>= λ a.
+    if next_is Close a then (behind Close a >>= λ r. Some ([], r))
+    else (ports_at a >>= λ ps. behind Close ps.1 >>= λ r. Some (ps.0, r)))
+    else Some ([], ts)
+
+abbrev pub at_end : List Terminal → Option (List Terminal)
+at_end [] = Some []
+at_end _ = None
+
+module _ (limit : ℕ) where
+  -- an expression in which nothing nests deeper than the limit
+  unfoldable pub expression : Reader Tree
+  expression ts = expr_at limit ts
+
+  unfoldable pub wire_at : Reader PartTree
+  wire_at ts = do
+    n ← name_at ts
+    if next_is Equals n.1
+        then (behind Equals n.1 >>= λ r. expression r >>= λ e. Some (wire n.0 (Some e.0), e.1))
+        else Some (wire n.0 None, n.1)
+
+  unfoldable pub assign_at : Reader PartTree
+  assign_at ts = do
+    n ← name_at ts
+    r ← behind Equals n.1
+    e ← expression r
+    Some (assign n.0 e.0, e.1)
+
+  unfoldable pub many_at : Op → List ℕ → Reader PartTree
+  many_at op n ts = do
+    es ← listed_at expression ts
+    Some (gate op n es.0, es.1)
+
+  abbrev pub name_and_expression : Tree → Reader (List ℕ × Tree)
+  name_and_expression t ts = behind Comma ts >>= λ r. expression r >>= λ e. Some ((net_name t, e.0), e.1)
+
+  unfoldable pub few_at : Op → List ℕ → Reader PartTree
+  few_at op n ts = do
+    e ← expression ts
+    es ← ahead_of (n ∷ []) (repeated comma_behind_net name_and_expression e.0 e.1)
+    Some (copies op es.0.0 es.0.1, es.1)
+
+  abbrev pub connections_at : Op → List ℕ → Reader PartTree
+  connections_at Buf n ts = few_at Buf n ts
+  connections_at Not n ts = few_at Not n ts
+  connections_at op n ts = many_at op n ts
+
+  unfoldable pub gate_at : Op → Reader PartTree
+  gate_at op ts = do
+    a ← behind Open (past_name ts)
+    n ← name_at a
+    b ← behind Comma n.1
+    c ← connections_at op n.0 b
+    d ← behind Close c.1
+    Some (c.0, d)
+
+  abbrev pub part_at : Kind → Reader PartTree
+  part_at (Declaration d) ts = name_at ts >>= λ n. Some (declaration d n.0, n.1)
+  part_at Wire ts = wire_at ts
+  part_at Assign ts = assign_at ts
+  part_at (Gate op) ts = gate_at op ts
+
+  unfoldable pub item_at : Reader (List PartTree)
+  item_at ts = do
+    k ← kind_at ts
+    ps ← listed_at (part_at k.0) k.1
+    r ← behind Semicolon ps.1
+    Some (ps.0, r)
+
+  abbrev pub one_item : Unit {0} → Reader (List PartTree × Unit {0})
+  one_item s ts = item_at ts >>= λ x. Some ((x.0, s), x.1)
+
+  -- a module and nothing behind it
+  unfoldable pub module_at : Reader ModuleTree
+  module_at ts = do
+    a ← behind ModuleWord ts
+    n ← name_at a
+    h ← header_at n.1
+    b ← behind Semicolon h.1
+    s ← repeated item_next one_item tt b
+    c ← behind EndModule s.1
+    d ← at_end c
+    Some (record { name = n.0; ports = h.0; items = s.0.0 }, d)

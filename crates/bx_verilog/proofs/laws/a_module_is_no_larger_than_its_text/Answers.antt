@@ -1,5 +1,0 @@
-use Rattle.bx_verilog.proofs.Sizes.{module_fits}
-use Rattle.bx_verilog.proofs.laws.a_module_is_no_larger_than_its_text.Goals as goal
-
-pub returns : goal.returns
-returns c = module_fits

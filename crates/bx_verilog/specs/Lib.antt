@@ -13,3 +13,4 @@ pub mod Mentions
 pub mod Faults
 pub mod Equations
 pub mod Nets
+pub mod Shown

@@ -2,6 +2,7 @@
 -- of what its expressions have besides names, in the order of the text, operands before what joins them.
 use Rattle.std.specs.Prelude.{◌≡◌, ℕ, ◌+◌, Bool, false, List, [], ◌∷◌, ◌++◌, map, length, position, Option, Some, None, if◌then◌else◌, Result, Ok, Err}
 use Rattle.std.specs.List.{list_any}
+use Rattle.std.specs.Option.{option_or}
 use Rattle.std.specs.Str.{bytes_eq}
 use Rattle.bx_logic.specs.declared.op.Op.TheVariants.{Not}
 use Rattle.bx_logic.specs.declared.driver.Driver.{Driver}
@@ -55,22 +56,25 @@ module _ (numbered : Text → ℕ) where
   inner_drivers first [] = []
   inner_drivers first (d ∷ ds) = all_own_drivers first d.arguments ++ inner_drivers (first + all_own d.arguments) ds
 
-  -- what drives a name; a name that nothing drives is 0, which nothing reads where the module is accepted
-  abbrev pub gate_of : ℕ → List Drive → Text → Driver
-  gate_of first [] n = Constant false
+  -- the gate that drives a name; where the module is accepted there is one at most
+  abbrev pub gate_of : ℕ → List Drive → Text → Option Driver
+  gate_of first [] n = None
   gate_of first (d ∷ ds) n =
-      if list_any (bytes_eq n) d.targets then Gate d.op (net_numbers first d.arguments) else gate_of (first + all_own d.arguments) ds n
+      option_or (gate_of (first + all_own d.arguments) ds n)
+      (if list_any (bytes_eq n) d.targets then Some (Gate d.op (net_numbers first d.arguments)) else None)
 
 -- how many names there are, which is the first number of the other nets
 abbrev pub name_count : ModuleTree → ℕ
 name_count m = length (names m)
 
-abbrev pub input_or : Driver → Option ℕ → Driver
-input_or other (Some i) = Input i
-input_or other None = other
+-- what drives a name: a gate, or an input; a name that is only declared is 0, and nothing reads it
+abbrev pub chosen : Option Driver → Option ℕ → Driver
+chosen (Some gate) input = gate
+chosen None (Some i) = Input i
+chosen None None = Constant false
 
 abbrev pub driver_of : ModuleTree → Text → Driver
-driver_of m n = input_or (gate_of (number m) (name_count m) (drives m) n) (position (bytes_eq n) (inputs m))
+driver_of m n = chosen (gate_of (number m) (name_count m) (drives m) n) (position (bytes_eq n) (inputs m))
 
 abbrev pub net_of : ModuleTree → Netlist
 net_of m =

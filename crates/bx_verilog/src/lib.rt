@@ -2,9 +2,11 @@
 //! net of a module, or the first thing that is wrong with it.
 #![tactic(auto)]
 
+mod elaborate;
 pub mod fault;
-pub mod laws;
+mod mentions;
 pub mod role;
 
 pub use bx_syntax::{Construct, Module, ReadFault, read_module};
+pub use elaborate::to_net;
 pub use fault::NetFault;

@@ -12,5 +12,5 @@ pub mod Drives
 pub mod Mentions
 pub mod Faults
 pub mod Equations
-pub mod Nets
+pub mod Elaboration
 pub mod Shown

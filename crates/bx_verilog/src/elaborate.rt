@@ -2,7 +2,7 @@
 ghost use Rattle.std.specs.Prelude.{◌≡◌, ◌≢◌, Result, Ok, Err, IfOk, IfErr};
 ghost use Rattle.bx_logic.specs.Nets.{Netlist};
 ghost use Rattle.bx_verilog.specs.declared.fault.NetFault.{NetFault as Fault};
-ghost use Rattle.bx_verilog.specs.Nets.{Elaborates};
+ghost use Rattle.bx_verilog.specs.Elaboration.{Elaborates};
 
 use crate::fault::NetFault;
 use bx_logic::Net;

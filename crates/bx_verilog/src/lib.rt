@@ -5,6 +5,7 @@
 mod elaborate;
 pub mod fault;
 mod mentions;
+mod names;
 pub mod role;
 
 pub use bx_syntax::{Construct, Module, ReadFault, read_module};

@@ -1,1 +1,4 @@
+pub mod Firsts
+pub mod Members
+pub mod Numbering
 pub mod Places

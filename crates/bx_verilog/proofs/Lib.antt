@@ -1,3 +1,4 @@
+pub mod Counting
 pub mod Firsts
 pub mod Members
 pub mod Numbering

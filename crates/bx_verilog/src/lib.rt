@@ -7,6 +7,7 @@ pub mod fault;
 mod mentions;
 mod names;
 pub mod role;
+mod uses;
 
 pub use bx_syntax::{Construct, Module, ReadFault, read_module};
 pub use elaborate::to_net;

@@ -1,5 +1,6 @@
 pub mod Counting
 pub mod Firsts
+pub mod Flaws
 pub mod Members
 pub mod Numbering
 pub mod Places

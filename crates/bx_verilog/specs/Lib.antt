@@ -15,3 +15,4 @@ pub mod Equations
 pub mod Elaboration
 pub mod Shown
 pub mod Uses
+pub mod Flaws

@@ -1,0 +1,2 @@
+pub mod InnerNets
+pub mod Members

@@ -4,6 +4,7 @@
 
 mod elaborate;
 pub mod fault;
+pub mod laws;
 mod mentions;
 pub mod role;
 

@@ -1,3 +1,3 @@
 pub mod Driving
 pub mod InnerNets
-pub mod Members
+pub mod Membership

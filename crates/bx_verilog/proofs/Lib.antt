@@ -1,0 +1,8 @@
+pub mod Cyclic
+pub mod Driving
+pub mod Firsts
+pub mod InnerNets
+pub mod Members
+pub mod Membership
+pub mod Numbering
+pub mod Places

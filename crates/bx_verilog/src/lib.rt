@@ -4,7 +4,9 @@
 
 mod elaborate;
 pub mod fault;
+pub mod laws;
 mod mentions;
+mod names;
 pub mod role;
 
 pub use bx_syntax::{Construct, Module, ReadFault, read_module};

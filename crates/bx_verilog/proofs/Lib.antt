@@ -1,3 +1,4 @@
+pub mod Arity
 pub mod Driving
 pub mod Firsts
 pub mod InnerNets

@@ -1,5 +1,6 @@
 pub mod Arity
 pub mod Driving
+pub mod ElaboratedNets
 pub mod Firsts
 pub mod InnerNets
 pub mod Members

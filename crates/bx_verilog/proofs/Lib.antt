@@ -5,5 +5,6 @@ pub mod Firsts
 pub mod InnerNets
 pub mod Members
 pub mod Membership
+pub mod MentionSizes
 pub mod Numbering
 pub mod Places

@@ -1,4 +1,5 @@
 pub mod Arity
+pub mod Cyclic
 pub mod Driving
 pub mod ElaboratedNets
 pub mod Firsts

@@ -1,7 +1,6 @@
 -- The lists that a module gives make a net, where its names are driven once and none depends on itself.
-use Rattle.std.proofs.Common.{◌≡◌, ◌≢◌, ℕ, ◌+◌, ◌-◌, ◌<◌, ◌≤◌, ◌&&◌, Bool, true, false, cond, List, [], ◌∷◌, ◌++◌, map, filter, flat_map, length, length-append, get_or, Contains, Option, Some, None, ◌⊎◌, refl, sym, ap, ◌∙◌, subst, arith, inl, inr}
-use Rattle.std.specs.Prelude.{slice_get, nat_lt}
-use Rattle.std.specs.Bool.{Decides}
+use Rattle.std.proofs.Common.{◌≡◌, ◌≢◌, ℕ, ◌+◌, ◌-◌, ◌<◌, ◌≤◌, ◌&&◌, Bool, true, false, cond, List, [], ◌∷◌, ◌++◌, map, flat_map, length, length-append, get_or, Contains, Some, None, refl, sym, ap, ◌∙◌, subst, arith, inl, inr}
+use Rattle.std.specs.Prelude.{nat_lt}
 use Rattle.std.specs.List.{All, AllByRecursion, count_by, position, position_or_len}
 use Rattle.std.specs.Str.{bytes_eq}
 use Rattle.std.proofs.Math.Bool.{and-true}
@@ -12,37 +11,34 @@ use Rattle.std.proofs.lemmas.Option.{slice_get-get_or}
 use Rattle.std.proofs.lemmas.List.Elements.{All-append, All-map, All-weaker, All-contains, All-from_recursion, All-get_or, Contains-get_or}
 use Rattle.std.proofs.lemmas.List.Quantifiers.{position-Some}
 use Rattle.std.proofs.lemmas.List.Sums.{sum_by-cons, length-filter, count_by-le-length}
-use Rattle.std.proofs.lemmas.Slice.Eq.{bytes_eq-Decides}
 use Rattle.bx_logic.specs.Lists.{AreDistinct}
-use Rattle.bx_logic.specs.declared.op.Op.{Op}
 use Rattle.bx_logic.specs.declared.op.Op.TheVariants.{Not}
 use Rattle.bx_logic.specs.declared.driver.Driver.{Driver}
 use Rattle.bx_logic.specs.declared.driver.Driver.TheVariants.{Input, Constant, Gate}
-use Rattle.bx_logic.specs.Nets.{arguments_of, driver_at, Reads, HasArity, IsDriver, IsDrivenOnce, IsAcyclic, IsNet, output_nets}
+use Rattle.bx_logic.specs.Nets.{arguments_of, driver_at, HasArity, IsDriver, IsAcyclic, IsNet, output_nets}
 use Rattle.bx_logic.specs.Cycles.{ReadsNetsOnly}
 use Rattle.bx_syntax.specs.declared.tree.Direction.TheVariants.{Input as InputDirection}
 use Rattle.bx_syntax.specs.declared.tree.Operator.{Operator}
 use Rattle.bx_syntax.specs.declared.tree.Operator.TheVariants.{And, Or, Xor, Xnor}
 use Rattle.bx_syntax.specs.declared.tree.Port.{Port}
 use Rattle.bx_syntax.specs.Parts.{ModuleTree}
-use Rattle.bx_syntax.specs.Sizes.{module_size}
 use Rattle.bx_syntax.specs.Texts.{IsTree}
 use Rattle.bx_syntax.proofs.Sizes.{module_fits}
 use Rattle.bx_verilog.specs.declared.role.Role.{Role}
-use Rattle.bx_verilog.specs.declared.role.Role.TheVariants.{Header, Directed, Wired, Driven, Read}
+use Rattle.bx_verilog.specs.declared.role.Role.TheVariants.{Header, Directed, Read}
 use Rattle.bx_verilog.specs.Formulas.{Text, Formula, named, constant, negation, pair, operation, names_of}
 use Rattle.bx_verilog.specs.Drives.{Drive, parts_of, drives}
 use Rattle.bx_verilog.specs.Mentions.{Mention, direction_mentions, port_mentions, part_mentions, mentions, names, number, count, is_header, is_input, is_output, is_driven, ports_as, inputs, outputs}
 use Rattle.bx_verilog.specs.Faults.{IsFree, IsDriven, HasTwoDrivers, HasPorts, twice_in_header}
-use Rattle.bx_verilog.specs.Elaboration.{own, all_own, net_number, own_drivers, net_numbers, all_own_drivers, inner_drivers, name_count, driver_of, chosen, net_of, gate_of}
+use Rattle.bx_verilog.specs.Elaboration.{own, all_own, net_number, own_drivers, net_numbers, all_own_drivers, inner_drivers, name_count, driver_of, chosen, net_of}
 use Rattle.bx_verilog.proofs.Arity.{drive-arity}
 use Rattle.bx_verilog.proofs.Driving.{IsGateOf, driver-cases, no-gate-of-input, read-mention}
-use Rattle.bx_verilog.proofs.Firsts.{Contains-slice_get, place-of}
+use Rattle.bx_verilog.proofs.Firsts.{same_texts, same_bytes, place-of}
 use Rattle.bx_verilog.proofs.InnerNets.{drives_own, drives_own-append, length-drivers, driver-at-name, named-driver}
-use Rattle.bx_verilog.proofs.Members.{AreDistinct-filter}
-use Rattle.bx_verilog.proofs.Membership.{Member, Contains-from_member, Member-from_contains, Member-append_left, Member-append_right, Member-filter_cases, Member-map_cases, Member-flat_map, AllByRecursion-from_member, counted, counted-append, counted-member}
+use Rattle.bx_verilog.proofs.Members.{AreDistinct-filter, count_by-some}
+use Rattle.bx_verilog.proofs.Membership.{Member, Contains-from_member, Member-from_contains, Member-append_left, Member-append_right, Member-filter_cases, AllByRecursion-from_member, counted, counted-append}
 use Rattle.bx_verilog.proofs.MentionSizes.{inner_of, nets-fit}
-use Rattle.bx_verilog.proofs.Numbering.{number-within, number-at, number-of, mentioned, count-mention}
+use Rattle.bx_verilog.proofs.Numbering.{number-within, number-of, mentioned, count-mention}
 
 -- Numbers within the net.
 
@@ -266,9 +262,6 @@ port-once m good n =
       | inr once ↦ omega (arith, all, once, ports-counted n m.ports)
     ]
 
-itself : (n : Text) → bytes_eq n n ≡ true
-itself n = (bytes_eq-Decides n n).1 refl
-
 distinct-counted : (ns : List Text) → ((n : Text) → count_by (bytes_eq n) ns ≤ 1) → AreDistinct ns
 distinct-counted [] h = tt
 distinct-counted (x ∷ xs) h = (
@@ -278,8 +271,8 @@ distinct-counted (x ∷ xs) h = (
   where
     apart : (y : Text) → Member y xs → y ≢ x
     apart y i e =
-        let here : ◌≡◌ {A = ℕ} (cond (bytes_eq x x) 1 0) 1 = ap (λ b. cond b 1 0) (itself x) in
-        let there = counted-member (bytes_eq x) y xs i ((bytes_eq-Decides x y).1 (sym e)) in
+        let here : ◌≡◌ {A = ℕ} (cond (bytes_eq x x) 1 0) 1 = ap (λ b. cond b 1 0) (same_bytes x x refl) in
+        let there = count_by-some (bytes_eq x) xs y (Contains-from_member y xs i) (same_bytes x y (sym e)) in
         let once = h x in
         omega (arith, once, here, there, counted (bytes_eq x) x xs)
 
@@ -334,7 +327,7 @@ only-input m i k l e =
                 let same : Input j ≡ Input i = sym is ∙ sym at ∙ e in
                 let number_same : j ≡ i = cc in
                 let passes = (position-Some (bytes_eq other) (inputs m) j [] place).1 in
-                let text : other ≡ n = (bytes_eq-Decides other (get_or (inputs m) j [])).0 passes ∙ ap (λ x. get_or (inputs m) x []) number_same in
+                let text : other ≡ n = same_texts other (get_or (inputs m) j []) passes ∙ ap (λ x. get_or (inputs m) x []) number_same in
                 sym (number-of m k other (slice_get-get_or (names m) k [] within)) ∙ ap (number m) text
             | inr (inr zero_driven) ↦ (let wrong : Constant false ≡ Input i = sym zero_driven ∙ sym at ∙ e in cc)
           ]

@@ -2,6 +2,7 @@
 use Rattle.std.proofs.Common.{◌≡◌, ℕ, zero, suc, ◌+◌, ◌<◌, ◌≤◌, ◌⊎◌, Bool, true, false, cond, List, [], ◌∷◌, ◌++◌, map, filter, flat_map, length, get_or, Contains, inl, inr, refl, sym, ap, ◌∙◌, subst, arith}
 use Rattle.std.specs.List.{AllByRecursion, count_by}
 use Rattle.std.proofs.lemmas.List.Sums.{sum_by-cons, sum_by-append}
+use Rattle.bx_verilog.proofs.Members.{count_by-some}
 
 abbrev pub Member : {X : Type 0} → X → List X → Type 0
 Member x [] = ⊥
@@ -110,18 +111,13 @@ one_of : (b : Bool) → b ≡ true → ◌≡◌ {A = ℕ} (cond b 1 0) 1
 one_of true e = refl
 one_of false e = cc
 
-pub counted-member : {X : Type 0} (p : X → Bool) (x : X) (xs : List X) → Member x xs → p x ≡ true → 1 ≤ count_by p xs
-counted-member p x [] h passes = absurd h
-counted-member p x (y ∷ ys) (inl e) passes = omega (arith, counted p y ys, one_of (p y) (ap p e ∙ passes))
-counted-member p x (y ∷ ys) (inr h) passes = omega (arith, counted p y ys, counted-member p x ys h passes)
-
 -- two that pass, where one passes at most, are the same
 pub counted-same : {X : Type 0} (p : X → Bool) (x y : X) (xs : List X) → count_by p xs ≤ 1 → Member x xs → Member y xs → p x ≡ true → p y ≡ true → x ≡ y
 counted-same p x y [] few h k i j = absurd h
 counted-same p x y (z ∷ zs) few (inl e) (inl f) i j = sym e ∙ f
 counted-same p x y (z ∷ zs) few (inl e) (inr k) i j =
-    absurd (omega (arith, counted p z zs, one_of (p z) (ap p e ∙ i), counted-member p y zs k j))
+    absurd (omega (arith, counted p z zs, one_of (p z) (ap p e ∙ i), count_by-some p zs y (Contains-from_member y zs k) j))
 counted-same p x y (z ∷ zs) few (inr h) (inl f) i j =
-    absurd (omega (arith, counted p z zs, one_of (p z) (ap p f ∙ j), counted-member p x zs h i))
+    absurd (omega (arith, counted p z zs, one_of (p z) (ap p f ∙ j), count_by-some p zs x (Contains-from_member x zs h) i))
 counted-same p x y (z ∷ zs) few (inr h) (inr k) i j =
     counted-same p x y zs (omega (arith, counted p z zs)) h k i j

@@ -207,12 +207,12 @@ few-ports test m =
     omega (arith, length-filter p (port_names m), count_by-le-length p (port_names m), length-map m.ports (λ (x : Port). x.name))
 
 -- a port that is declared so is a name, and counted
-port-passes : (test : Role → Bool) (m : ModuleTree) (n : Text) → Member n (ports_as test m) → 1 ≤ count test m n
+pub port-passes : (test : Role → Bool) (m : ModuleTree) (n : Text) → Member n (ports_as test m) → 1 ≤ count test m n
 port-passes test m n h =
     let passes = (Member-filter_cases (λ (k : Text). nat_lt 0 (count test m k)) n (port_names m) h).1 in
     grind (arith, nat_tests)
 
-port-named : (test : Role → Bool) (m : ModuleTree) (n : Text) → Member n (ports_as test m) → Contains (names m) n
+pub port-named : (test : Role → Bool) (m : ModuleTree) (n : Text) → Member n (ports_as test m) → Contains (names m) n
 port-named test m n h =
     let (r, c, t) = count-mention test m n (port-passes test m n h) in
     mentioned m n r c
@@ -276,7 +276,7 @@ distinct-counted (x ∷ xs) h = (
         let once = h x in
         omega (arith, once, here, there, counted (bytes_eq x) x xs)
 
-inputs-distinct : (m : ModuleTree) → HasPorts m → AreDistinct (inputs m)
+pub inputs-distinct : (m : ModuleTree) → HasPorts m → AreDistinct (inputs m)
 inputs-distinct m good = AreDistinct-filter (λ (n : Text). nat_lt 0 (count is_input m n)) (port_names m) (distinct-counted (port_names m) (port-once m good))
 
 input-role : (r : Role) → is_input r ≡ true → r ≡ Directed InputDirection
@@ -284,12 +284,12 @@ input-role (Directed InputDirection) e = refl
 input-role _ e = cc
 
 -- an input is declared so
-input-declared : (m : ModuleTree) (n : Text) → Member n (inputs m) → Contains (mentions m) (n, Directed InputDirection)
+pub input-declared : (m : ModuleTree) (n : Text) → Member n (inputs m) → Contains (mentions m) (n, Directed InputDirection)
 input-declared m n h =
     let (r, c, t) = count-mention is_input m n (port-passes is_input m n h) in
     subst (λ (x : Role). Contains (mentions m) (n, x)) (input-role r t) c
 
-once-driven : (m : ModuleTree) → IsFree (HasTwoDrivers m) → (n : Text) → count is_driven m n ≤ 1
+pub once-driven : (m : ModuleTree) → IsFree (HasTwoDrivers m) → (n : Text) → count is_driven m n ≤ 1
 once-driven m free n = elim (cases_lt 1 (count is_driven m n)) [ inl twice ↦ absurd (free n (omega (arith, twice))) | inr once ↦ once ]
 
 position-of : (p : Text → Bool) (xs : List Text) (i : ℕ) → position_or_len p xs ≡ i → i < length xs → position p xs ≡ Some i
@@ -298,7 +298,7 @@ position-of p xs i e l =
     cond-true (nat_lt (position_or_len p xs) (length xs)) (Some (position_or_len p xs)) None (lt-ltb (position_or_len p xs) (length xs) less) ∙ ap Some e
 
 -- an input is driven by its number
-input-driver : (m : ModuleTree) → IsDriven m → (i : ℕ) → i < length (inputs m) → driver_of m (get_or (inputs m) i []) ≡ Input i
+pub input-driver : (m : ModuleTree) → IsDriven m → (i : ℕ) → i < length (inputs m) → driver_of m (get_or (inputs m) i []) ≡ Input i
 input-driver m driven i l =
     let n = get_or (inputs m) i [] in
     let member = Member-from_contains n (inputs m) (Contains-get_or (inputs m) i [] l) in

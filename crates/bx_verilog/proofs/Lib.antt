@@ -1,8 +1,11 @@
+pub mod Arity
 pub mod Cyclic
 pub mod Driving
+pub mod ElaboratedNets
 pub mod Firsts
 pub mod InnerNets
 pub mod Members
 pub mod Membership
+pub mod MentionSizes
 pub mod Numbering
 pub mod Places

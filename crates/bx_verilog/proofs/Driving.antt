@@ -8,7 +8,6 @@ use Rattle.std.proofs.Math.Bool.{and-true}
 use Rattle.std.proofs.lemmas.Bool.{cases_Bool, false_from_ne_true}
 use Rattle.std.proofs.lemmas.List.{append-nil, append_assoc}
 use Rattle.std.proofs.lemmas.List.Concat.{flat_map-append}
-use Rattle.std.proofs.lemmas.List.Sums.{sum_by-cons, sum_by-append}
 use Rattle.std.proofs.lemmas.List.Folds.{Any-from_list_any, list_any_at}
 use Rattle.std.proofs.lemmas.Slice.Eq.{bytes_eq-Decides}
 use Rattle.bx_logic.specs.declared.op.Op.{Op}
@@ -25,7 +24,7 @@ use Rattle.bx_verilog.specs.Formulas.{Text, Formula, formula, names_of}
 use Rattle.bx_verilog.specs.Drives.{Drive, drive, drives_of, parts_of, drives}
 use Rattle.bx_verilog.specs.Mentions.{Mention, all_as, direction_mentions, port_mentions, reads_mentions, part_mentions, mentions, count, is_driven, inputs, number}
 use Rattle.bx_verilog.specs.Elaboration.{all_own, net_numbers, gate_of, name_count, chosen, driver_of}
-use Rattle.bx_verilog.proofs.Membership.{Member, Contains-from_member, Member-from_get_or, Member-from_contains, Member-append_left, Member-append_right, Member-append_cases, Member-map, Member-map_cases, Member-flat_map, Member-flat_map_cases, Member-splits}
+use Rattle.bx_verilog.proofs.Membership.{Member, Contains-from_member, Member-from_get_or, Member-from_contains, Member-append_left, Member-append_right, Member-append_cases, Member-map, Member-map_cases, Member-flat_map, Member-flat_map_cases, Member-splits, counted, counted-append, counted-member, counted-same}
 use Rattle.bx_verilog.proofs.InnerNets.{drives_own}
 
 targets-driven : (ns : List Text) (rest : List Mention) (n : Text) → Member n ns → Member (n, Driven) (all_as Driven ns ++ rest)
@@ -142,34 +141,6 @@ mention-drive m n c =
           (d, Contains-from_member d (drives m) (Member-flat_map drives_of p d (parts_of m) h i), Contains-from_member n d.targets k)
           )
     ]
-
--- Counts.
-
-counted : {X : Type 0} (p : X → Bool) (x : X) (xs : List X) → count_by p (x ∷ xs) ≡ cond (p x) 1 0 + count_by p xs
-counted p x xs = sum_by-cons (λ y. cond (p y) 1 0) x xs
-
-counted-append : {X : Type 0} (p : X → Bool) (xs ys : List X) → count_by p (xs ++ ys) ≡ count_by p xs + count_by p ys
-counted-append p xs ys = sum_by-append (λ y. cond (p y) 1 0) xs ys
-
-one_of : (b : Bool) → b ≡ true → ◌≡◌ {A = ℕ} (cond b 1 0) 1
-one_of true e = refl
-one_of false e = cc
-
-counted-member : {X : Type 0} (p : X → Bool) (x : X) (xs : List X) → Member x xs → p x ≡ true → 1 ≤ count_by p xs
-counted-member p x [] h passes = absurd h
-counted-member p x (y ∷ ys) (inl e) passes = omega (arith, counted p y ys, one_of (p y) (ap p e ∙ passes))
-counted-member p x (y ∷ ys) (inr h) passes = omega (arith, counted p y ys, counted-member p x ys h passes)
-
--- two that pass, where one passes at most, are the same
-counted-same : {X : Type 0} (p : X → Bool) (x y : X) (xs : List X) → count_by p xs ≤ 1 → Member x xs → Member y xs → p x ≡ true → p y ≡ true → x ≡ y
-counted-same p x y [] few h k i j = absurd h
-counted-same p x y (z ∷ zs) few (inl e) (inl f) i j = sym e ∙ f
-counted-same p x y (z ∷ zs) few (inl e) (inr k) i j =
-    absurd (omega (arith, counted p z zs, one_of (p z) (ap p e ∙ i), counted-member p y zs k j))
-counted-same p x y (z ∷ zs) few (inr h) (inl f) i j =
-    absurd (omega (arith, counted p z zs, one_of (p z) (ap p f ∙ j), counted-member p x zs h i))
-counted-same p x y (z ∷ zs) few (inr h) (inr k) i j =
-    counted-same p x y zs (omega (arith, counted p z zs)) h k i j
 
 -- the mentions by which a name is driven
 abbrev drives_name : Text → Mention → Bool

@@ -1,10 +1,11 @@
 -- Texts by first appearance: the same ones, each once, and one is found at its place.
-use Rattle.std.proofs.Common.{◌≡◌, ◌≢◌, ℕ, ◌+◌, Bool, true, false, not, zero, suc, List, [], ◌∷◌, sym, subst, ap, ◌∙◌, inl, inr, Some, arith}
+use Rattle.std.proofs.Common.{◌≡◌, ◌||◌, ◌++◌, append-nil, map, refl, false, cond, ◌≢◌, ℕ, ◌+◌, Bool, true, false, not, zero, suc, List, [], ◌∷◌, sym, subst, ap, ◌∙◌, inl, inr, Some, arith}
 use Rattle.std.specs.Prelude.{slice_get}
 use Rattle.std.specs.Str.{bytes_eq}
-use Rattle.std.specs.List.{Contains, filter, position_or_len}
-use Rattle.std.proofs.lemmas.Bool.{cases_Bool, true≢false, not-true, not_from_true, not_from_false, cond-true, cond-false}
-use Rattle.std.proofs.lemmas.List.Elements.{All-from_recursion, recursion_from_All, All-contains, All-weaker, filter_passes}
+use Rattle.std.specs.List.{Contains, filter, list_any, position_or_len}
+use Rattle.std.proofs.lemmas.Bool.{cases_Bool, cond_both, false_from_ne_true, or_left, true≢false, not-true, not_from_true, not_from_false, cond-true, cond-false}
+use Rattle.std.proofs.lemmas.List.Elements.{All-from_recursion, recursion_from_All, All-contains, All-weaker, filter_passes, filter-append}
+use Rattle.std.proofs.lemmas.List.{map_push}
 use Rattle.std.proofs.lemmas.Option.{slice_get_within, get_or_from_slice_get}
 use Rattle.std.proofs.lemmas.Slice.Eq.{bytes_eq-Decides}
 use Rattle.bx_logic.specs.Lists.{AreDistinct}
@@ -83,3 +84,69 @@ place-of (m ∷ ns) (suc k) n h e = elim (cases_Bool (bytes_eq n m)) [
   | inl same ↦ absurd (All-contains (λ x. x ≢ m) ns n (All-from_recursion (λ x. x ≢ m) ns h.0) (Contains-slice_get ns k n e) (same_texts n m same))
   | inr other ↦ place-there m ns n other ∙ ap suc (place-of ns k n h.1 e)
 ]
+
+-- a filter keeps what a test finds, where what passes the test passes the filter
+any-filtered : (p q : Text → Bool) → ((x : Text) → q x ≡ true → p x ≡ true) → (xs : List Text) → list_any q (filter p xs) ≡ list_any q xs
+any-filtered p q h [] = refl
+any-filtered p q h (x ∷ xs) = elim (cases_Bool (p x)) [
+  | inl pass ↦ ap (list_any q) (cond-true (p x) (x ∷ filter p xs) (filter p xs) pass) ∙ ap (λ b. q x || b) (any-filtered p q h xs)
+  | inr fail ↦
+      let none : q x ≡ false = false_from_ne_true (q x) (λ e. true≢false (sym (h x e) ∙ fail)) in
+      ap (list_any q) (cond-false (p x) (x ∷ filter p xs) (filter p xs) fail) ∙ any-filtered p q h xs ∙ ap (λ b. b || list_any q xs) (sym none)
+]
+
+filter-push_yes : (p : Text → Bool) (xs : List Text) (x : Text) → p x ≡ true → filter p (xs ++ x ∷ []) ≡ filter p xs ++ x ∷ []
+filter-push_yes p xs x e = filter-append p xs (x ∷ []) ∙ ap (λ ys. filter p xs ++ ys) (cond-true (p x) (x ∷ []) [] e)
+
+filter-push_no : (p : Text → Bool) (xs : List Text) (x : Text) → p x ≡ false → filter p (xs ++ x ∷ []) ≡ filter p xs
+filter-push_no p xs x e = filter-append p xs (x ∷ []) ∙ ap (λ ys. filter p xs ++ ys) (cond-false (p x) (x ∷ []) [] e) ∙ append-nil (filter p xs)
+
+-- the list where a text goes last, unless it is there
+abbrev pub with_text : List Text → Text → List Text
+with_text ns n = cond (list_any (bytes_eq n) ns) ns (ns ++ n ∷ [])
+
+with_text-known : (ns : List Text) (n : Text) → list_any (bytes_eq n) ns ≡ true → with_text ns n ≡ ns
+with_text-known ns n e = cond-true (list_any (bytes_eq n) ns) ns (ns ++ n ∷ []) e
+
+with_text-new : (ns : List Text) (n : Text) → list_any (bytes_eq n) ns ≡ false → with_text ns n ≡ ns ++ n ∷ []
+with_text-new ns n e = cond-false (list_any (bytes_eq n) ns) ns (ns ++ n ∷ []) e
+
+first-known : (m : Text) (ns : List Text) (n : Text) → bytes_eq m n ≡ true → m ∷ filter (is_other m) (with_text ns n) ≡ with_text (m ∷ filter (is_other m) ns) n
+first-known m ns n e =
+    let drops = filter-push_no (is_other m) ns n (not_from_true (bytes_eq m n) e) in
+    let keeps = cond_both (list_any (bytes_eq n) ns) ns (ns ++ n ∷ []) (λ xs. filter (is_other m) xs ≡ filter (is_other m) ns) (λ h. refl) (λ h. drops) in
+    ap (λ xs. m ∷ xs) keeps ∙ sym (with_text-known (m ∷ filter (is_other m) ns) n
+    (or_left (bytes_eq n m) (list_any (bytes_eq n) (filter (is_other m) ns)) (same_bytes n m (sym (same_texts m n e)))))
+
+first-new : (m : Text) (ns : List Text) (n : Text) → bytes_eq m n ≡ false → m ∷ filter (is_other m) (with_text ns n) ≡ with_text (m ∷ filter (is_other m) ns) n
+first-new m ns n e =
+    let other : bytes_eq n m ≡ false = false_from_ne_true (bytes_eq n m) (λ h. other_texts m n e (sym (same_texts n m h))) in
+    let found : list_any (bytes_eq n) (m ∷ filter (is_other m) ns) ≡ list_any (bytes_eq n) ns =
+    ap (λ b. b || list_any (bytes_eq n) (filter (is_other m) ns)) other
+    ∙ any-filtered (is_other m) (bytes_eq n) (λ x h. subst (λ y. is_other m y ≡ true) (same_texts n x h) (not_from_false (bytes_eq m n) e)) ns in
+    elim (cases_Bool (list_any (bytes_eq n) ns)) [
+      | inl known ↦ ap (λ xs. m ∷ filter (is_other m) xs) (with_text-known ns n known) ∙ sym (with_text-known (m ∷ filter (is_other m) ns) n (found ∙ known))
+      | inr new ↦ ap (λ xs. m ∷ filter (is_other m) xs) (with_text-new ns n new)
+          ∙ ap (λ xs. m ∷ xs) (filter-push_yes (is_other m) ns n (not_from_false (bytes_eq m n) e))
+          ∙ sym (with_text-new (m ∷ filter (is_other m) ns) n (found ∙ new))
+    ]
+
+pub firsts-push : (ns : List Text) (n : Text) → firsts (ns ++ n ∷ []) ≡ with_text (firsts ns) n
+firsts-push [] n = refl
+firsts-push (m ∷ ns) n = ap (λ xs. m ∷ filter (is_other m) xs) (firsts-push ns n) ∙ elim (cases_Bool (bytes_eq m n)) [
+  | inl same ↦ first-known m (firsts ns) n same
+  | inr other ↦ first-new m (firsts ns) n other
+]
+
+found-shown : {X : Type 0} (f : X → Text) (p : Text → Bool) (xs : List X) → list_any p (map f xs) ≡ list_any (λ x. p (f x)) xs
+found-shown f p [] = refl
+found-shown f p (x ∷ xs) = ap (λ b. p (f x) || b) (found-shown f p xs)
+
+-- the same of things that have a text, where one is there if another has its text
+pub with_text-shown : {X : Type 0} (f : X → Text) (xs : List X) (x : X) → map f (cond (list_any (λ y. bytes_eq (f x) (f y)) xs) xs (xs ++ x ∷ [])) ≡ with_text (map f xs) (f x)
+with_text-shown f xs x =
+    let found = found-shown f (bytes_eq (f x)) xs in
+    elim (cases_Bool (list_any (λ y. bytes_eq (f x) (f y)) xs)) [
+      | inl known ↦ ap (map f) (cond-true (list_any (λ y. bytes_eq (f x) (f y)) xs) xs (xs ++ x ∷ []) known) ∙ sym (with_text-known (map f xs) (f x) (found ∙ known))
+      | inr new ↦ ap (map f) (cond-false (list_any (λ y. bytes_eq (f x) (f y)) xs) xs (xs ++ x ∷ []) new) ∙ map_push f xs x ∙ sym (with_text-new (map f xs) (f x) (found ∙ new))
+    ]

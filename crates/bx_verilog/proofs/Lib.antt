@@ -1,3 +1,4 @@
+pub mod Arity
 pub mod Cyclic
 pub mod Driving
 pub mod ElaboratedNets
@@ -8,5 +9,6 @@ pub mod Inputs
 pub mod Meanings
 pub mod Members
 pub mod Membership
+pub mod MentionSizes
 pub mod Numbering
 pub mod Places

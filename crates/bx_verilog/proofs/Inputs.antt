@@ -1,5 +1,5 @@
 -- Which names are the inputs of a module, and what drives them in its net.
-use Rattle.std.proofs.Common.{◌≡◌, ◌⊎◌, ℕ, ◌<◌, ◌≤◌, Bool, true, false, List, [], ◌∷◌, map, flat_map, length, get_or, position, Contains, Option, Some, None, nat_lt, refl, sym, ap, ◌∙◌, subst, arith, inl, inr, lt-ltb, ltb-true}
+use Rattle.std.proofs.Common.{◌≡◌, ℕ, ◌<◌, ◌≤◌, true, false, List, [], map, flat_map, length, get_or, position, Contains, Option, Some, None, nat_lt, refl, sym, ap, ◌∙◌, subst, arith, inl, inr, lt-ltb, ltb-true}
 use Rattle.std.specs.List.{position_or_len}
 use Rattle.std.specs.Str.{bytes_eq}
 use Rattle.std.specs.Cmp.Lexicographic.{bytes_decides}

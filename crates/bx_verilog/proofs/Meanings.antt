@@ -1,16 +1,14 @@
--- The net of a module has the values of the module's equations over names: a valuation of the net makes one of the
--- equations, and one of the equations makes one of the net, of which there is only one.
-use Rattle.std.proofs.Common.{◌≡◌, ◌⊎◌, ℕ, suc, ◌+◌, ◌<◌, ◌≤◌, Bool, true, false, List, [], ◌∷◌, ◌++◌, map, flat_map, length, get_or, nat_lt, position, Some, Contains, refl, sym, ap, ap₂, ◌∙◌, subst, arith, inl, inr, length-append, ltb-true}
-use Rattle.std.specs.List.{AllByRecursion, AllZip}
+-- The net of a module has the values of the module's equations over names: a valuation of the net makes
+-- one of the equations, and one of the equations makes one of the net, of which there is only one.
+use Rattle.std.proofs.Common.{◌≡◌, ◌⊎◌, ℕ, suc, ◌+◌, ◌≤◌, Bool, true, false, List, [], ◌∷◌, ◌++◌, map, flat_map, length, nat_lt, position, Some, Contains, refl, sym, ap, ap₂, ◌∙◌, subst, arith, inl, inr, length-append, ltb-true}
+use Rattle.std.specs.List.{AllZip}
 use Rattle.std.specs.Str.{bytes_eq}
 use Rattle.std.proofs.lemmas.Bool.{cases_lt}
 use Rattle.std.proofs.lemmas.List.{length-map, get_or_append_left, get_or-map}
 use Rattle.std.proofs.lemmas.Option.{get_or_from_slice_get}
-use Rattle.bx_logic.specs.declared.op.Op.{Op}
 use Rattle.bx_logic.specs.declared.driver.Driver.{Driver}
 use Rattle.bx_logic.specs.declared.driver.Driver.TheVariants.{Input as InputDriver, Constant, Gate}
 use Rattle.bx_logic.specs.Op.{op_value}
-use Rattle.bx_logic.specs.Nets.{driver_at, IsAcyclic, output_nets}
 use Rattle.bx_logic.specs.Values.{value_of, driver_value, IsNetValuation, IsOnlyNetValuation, AreOutputValues}
 use Rattle.bx_logic.proofs.Valuations.{only_valuation}
 use Rattle.bx_syntax.specs.declared.tree.Direction.TheVariants.{Input, Output}
@@ -18,13 +16,13 @@ use Rattle.bx_syntax.specs.declared.tree.Port.{Port}
 use Rattle.bx_syntax.specs.Parts.{ModuleTree}
 use Rattle.bx_verilog.specs.declared.role.Role.{Role}
 use Rattle.bx_verilog.specs.declared.role.Role.TheVariants.{Header, Directed, Wired, Driven, Read}
-use Rattle.bx_verilog.specs.Formulas.{Text, Formula, formula_value, names_of}
+use Rattle.bx_verilog.specs.Formulas.{Text, formula_value, names_of}
 use Rattle.bx_verilog.specs.Drives.{Drive, drives}
-use Rattle.bx_verilog.specs.Mentions.{Mention, mentions, names, number, count, is_output, is_read, is_driven, inputs, outputs}
+use Rattle.bx_verilog.specs.Mentions.{mentions, names, number, count, is_output, is_read, is_driven, inputs, outputs}
 use Rattle.bx_verilog.specs.Faults.{IsDriven, IsAccepted}
 use Rattle.bx_verilog.specs.Equations.{Equation, equations_of, module_of, Assignment, Meets, IsValuation, Gives}
 use Rattle.bx_verilog.specs.Elaboration.{all_own, net_numbers, all_own_drivers, inner_drivers, name_count, driver_of, net_of}
-use Rattle.bx_verilog.proofs.Membership.{Member, Member-from_contains, Contains-from_member, Member-from_get_or, Member-map, Member-map_cases, Member-flat_map, Member-flat_map_cases, Member-append_left, Member-append_right, Member-filter_cases, AllByRecursion-from_member, member_of_AllByRecursion, Member-splits}
+use Rattle.bx_verilog.proofs.Membership.{Member, Member-from_contains, Contains-from_member, Member-from_get_or, Member-map, Member-map_cases, Member-flat_map, Member-flat_map_cases, Member-append_right, Member-filter_cases, AllByRecursion-from_member, member_of_AllByRecursion, Member-splits}
 use Rattle.bx_verilog.proofs.Numbering.{number-at, number-within, mentioned, count-some, count-mention}
 use Rattle.bx_verilog.proofs.InnerNets.{drives_own, length-all_own_drivers, length-drivers, named-driver}
 use Rattle.bx_verilog.proofs.Driving.{drive-mention, read-mention, mention-drive, IsGateOf, driver-of-target, driver-cases}
@@ -108,7 +106,7 @@ driven-role Wired e = cc
 driven-role Driven e = inl refl
 driven-role Read e = cc
 
--- the value that the net of a name has: its own, but for the constant that drives a name that nothing else drives
+-- the value of a name's net: its own, but the constant where nothing but a constant drives it
 abbrev settled : Driver → Bool → Bool
 settled (Constant b) x = b
 settled (InputDriver i) x = x
@@ -133,7 +131,7 @@ module _ (m : ModuleTree) (good : IsDriven m) where
       driver_of m n ≡ Gate d.op (net_numbers (number m) (name_count m + drives_own before) d.arguments)
   target-driver n before d after e h = driver-of-target m n (few n) before d after e (Contains-from_member n d.targets h)
 
-  -- nothing else drives a name that something drives
+  -- what drives a name that the module drives is no constant
   target-settled : (n : Text) (d : Drive) → Member d (drives m) → Member n d.targets → (x : Bool) → settled (driver_of m n) x ≡ x
   target-settled n d among target x =
       let (before, after, e) = Member-splits d (drives m) among in

@@ -1,24 +1,24 @@
 //! Laws of the definitions that the contracts cite. Nothing here runs.
-ghost use Rattle.std.specs.Prelude.{◌≡◌, ◌↔◌, ◌≤◌, Bool, List, map, length, Contains};
+ghost use Rattle.std.specs.Prelude.{◌≡◌, ◌↔◌, ◌≤◌, Bool, List, map, Contains};
 ghost use Rattle.std.specs.List.{AllZip};
-ghost use Rattle.bx_logic.specs.Nets.{IsAcyclic};
+ghost use Rattle.bx_logic.specs.Nets.{IsAcyclic, IsNet};
 ghost use Rattle.bx_logic.specs.Values.{IsNetValuation, AreOutputValues, value_of};
 ghost use Rattle.bx_syntax.specs.Parts.{ModuleTree};
-ghost use Rattle.bx_verilog.specs.Drives.{drives};
-ghost use Rattle.bx_verilog.specs.Elaboration.{net_of, name_count};
+ghost use Rattle.bx_syntax.specs.Texts.{IsTree};
+ghost use Rattle.bx_verilog.specs.Elaboration.{net_of};
 ghost use Rattle.bx_verilog.specs.Equations.{Assignment, Gives, module_of};
 ghost use Rattle.bx_verilog.specs.Faults.{IsAccepted, IsDriven, IsFree, IsOnCycle};
 ghost use Rattle.bx_verilog.specs.Formulas.{Text};
-ghost use Rattle.bx_verilog.specs.Mentions.{count, inputs, is_driven, names, number, outputs};
-
-/// For work.
-pub fn nets_hold()
-    ensures { (m : ModuleTree) → length (names m) ≡ name_count m }
-{}
+ghost use Rattle.bx_verilog.specs.Mentions.{count, inputs, is_driven, number, outputs};
 
 /// A name depends on itself by the equations of a module exactly where a net of the module's net does.
 pub fn a_cycle_of_names_is_one_of_nets()
     ensures { (m : ModuleTree) → IsDriven m → IsFree (IsOnCycle m) ↔ IsAcyclic (net_of m).drivers }
+{}
+
+/// The lists of a module of some text, in which nothing is wrong, make a net.
+pub fn an_accepted_module_makes_a_net()
+    ensures { (m : ModuleTree) → IsTree m → IsAccepted m → IsNet (net_of m) }
 {}
 
 /// The net of a module has the values of the module's equations: whatever the values of the inputs are,

@@ -1,5 +1,5 @@
 //! Laws of the definitions that the contracts cite. Nothing here runs.
-ghost use Rattle.std.specs.Prelude.{◌≡◌, ◌↔◌, ◌≤◌, Bool, List, map, Contains};
+ghost use Rattle.std.specs.Prelude.{◌↔◌, ◌≤◌, Bool, List, map, Contains};
 ghost use Rattle.std.specs.List.{AllZip};
 ghost use Rattle.bx_logic.specs.Nets.{IsAcyclic, IsNet};
 ghost use Rattle.bx_logic.specs.Values.{IsNetValuation, AreOutputValues, value_of};

@@ -3,7 +3,10 @@ pub mod Cyclic
 pub mod Driving
 pub mod ElaboratedNets
 pub mod Firsts
+pub mod FormulaValues
 pub mod InnerNets
+pub mod Inputs
+pub mod Meanings
 pub mod Members
 pub mod Membership
 pub mod MentionSizes

@@ -1,18 +1,17 @@
 -- What the uses of a module's names say of its faults: a name shows a flaw exactly where it has it, and
 -- some use is an output's exactly where some port is an output, as long as the ports are good.
-use Rattle.std.proofs.Common.{◌≡◌, ◌⊎◌, ℕ, zero, suc, ◌+◌, ◌<◌, ◌≤◌, eqb, ltb, Bool, true, false, cond, not, List, [], ◌∷◌, ◌++◌, map, filter, flat_map, length, get_or, take, drop, drop-cons, Option, Some, None, Contains, refl, sym, ap, ◌∙◌, subst, inl, inr, add-one, arith}
-use Rattle.std.specs.Prelude.{All, ◌||◌, ◌&&◌}
+use Rattle.std.proofs.Common.{◌≡◌, ◌⊎◌, ℕ, suc, ◌<◌, ◌≤◌, eqb, ltb, Bool, true, false, not, List, [], ◌∷◌, ◌++◌, map, filter, flat_map, length, get_or, take, drop, drop-cons, Option, Some, None, Contains, refl, sym, ap, ◌∙◌, subst, inl, inr, arith}
+use Rattle.std.specs.Prelude.{All, ◌||◌}
 use Rattle.std.specs.List.{list_any, position, position_or_len}
-use Rattle.std.proofs.lemmas.Bool.{cases_Bool, cases_lt, false≢true, true≢false, and_from, and_parts, or_cases, or_left, or_right, cond-true, cond-false}
+use Rattle.std.proofs.lemmas.Bool.{cases_Bool, cases_lt, false≢true, and_from, and_parts, or_cases, or_left, or_right, cond-true, cond-false}
 use Rattle.std.proofs.lemmas.Bool.Decides.{nat_tests, Decides-ltb, Decides-eqb}
-use Rattle.std.proofs.lemmas.List.{get_or-map, get_or-take, length-map, length-take-le, take-append-drop}
+use Rattle.std.proofs.lemmas.List.{get_or-take, length-take-le, take-append-drop}
 use Rattle.std.proofs.lemmas.List.Elements.{All-nil, All-cons, All-append, All-map, All-contains}
 use Rattle.std.proofs.lemmas.List.Folds.{Any-from_list_any, list_any_at}
 use Rattle.std.proofs.lemmas.List.Quantifiers.{position-Some}
 use Rattle.std.proofs.lemmas.List.Sums.{fails_before_first, position_or_len_is}
 use Rattle.bx_syntax.specs.Parts.{PartTree, declaration, wire, assign, gate, copies, ModuleTree}
 use Rattle.bx_syntax.specs.declared.tree.Direction.{Direction}
-use Rattle.bx_syntax.specs.declared.tree.Direction.TheVariants.{Input, Output}
 use Rattle.bx_syntax.specs.declared.tree.Port.{Port as PortTree}
 use Rattle.bx_verilog.specs.declared.check.Flaw.{Flaw}
 use Rattle.bx_verilog.specs.declared.check.Flaw.TheVariants.{Port, Drivers, Undriven}
@@ -45,17 +44,17 @@ pub position-none : {X : Type 0} (p : X → Bool) (xs : List X) →
 position-none p [] fail = refl
 position-none p (x ∷ xs) fail =
     let e : position_or_len p (x ∷ xs) ≡ length (x ∷ xs) =
-        position_or_len_is p (x ∷ xs) (length (x ∷ xs)) x (omega arith) (λ k low. fail k x low) (λ h. absurd (omega arith)) in
+    position_or_len_is p (x ∷ xs) (length (x ∷ xs)) x (omega arith) (λ k low. fail k x low) (λ h. absurd (omega arith)) in
     let past : ltb (position_or_len p (x ∷ xs)) (length (x ∷ xs)) ≡ false = grind (arith, nat_tests) in
     cond-false (ltb (position_or_len p (x ∷ xs)) (length (x ∷ xs))) (Some (position_or_len p (x ∷ xs))) None past
 
 position-None : {X : Type 0} (p : X → Bool) (xs : List X) (k : ℕ) (d : X) → position p xs ≡ None → k < length xs → p (get_or xs k d) ≡ false
 position-None p xs k d none low =
     elim (cases_lt (position_or_len p xs) (length xs)) [
-      inl within ↦
-        let some = cond-true (ltb (position_or_len p xs) (length xs)) (Some (position_or_len p xs)) None ((Decides-ltb (position_or_len p xs) (length xs)).1 within) in
-        cc
-    | inr past ↦ fails_before_first p xs k d (omega arith)
+      | inl within ↦
+          let some = cond-true (ltb (position_or_len p xs) (length xs)) (Some (position_or_len p xs)) None ((Decides-ltb (position_or_len p xs) (length xs)).1 within) in
+          cc
+      | inr past ↦ fails_before_first p xs k d (omega arith)
     ]
 
 -- a flaw and its counts
@@ -175,7 +174,7 @@ no-outputs m all uses are none =
           let named = counted m n is_output ((Decides-ltb 0 (count is_output m n)).0 pass) in
           let (k, low, is) = subst (λ (ns : List Text). Contains ns n) (sym are.named) named in
           let at : get_or uses k (uses_among [] []) ≡ uses_among (mentions m) n =
-              uses-at m all uses are k n (uses_among [] []) low ∙ ap (uses_among (mentions m)) is in
+          uses-at m all uses are k n (uses_among [] []) low ∙ ap (uses_among (mentions m)) is in
           let some = list_any_at is_used_output uses k (uses_among [] []) (omega (arith, same-length m all uses are)) (ap is_used_output at ∙ pass) in
           absurd (false≢true (sym none ∙ some))
     ])
@@ -214,8 +213,8 @@ module _ (m : ModuleTree) where
   named-ports =
       All-append (IsPort m) (flat_map port_mentions m.ports) (flat_map part_mentions (parts_of m))
       (All-flat_map (IsPort m) port_mentions m.ports (λ p among.
-          All-cons (IsPort m) (p.name, Header) (direction_mentions p.name p.direction)
-          (λ e. Contains-map (λ (p : PortTree). p.name) m.ports p among) (direction-ports p.name p.direction)))
+      All-cons (IsPort m) (p.name, Header) (direction_mentions p.name p.direction)
+      (λ e. Contains-map (λ (p : PortTree). p.name) m.ports p among) (direction-ports p.name p.direction)))
       (All-flat_map (IsPort m) part_mentions (parts_of m) (λ p among. part-ports p))
 
 output-directed : (r : Role) → is_output r ≡ true → is_directed r ≡ true

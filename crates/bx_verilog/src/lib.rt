@@ -5,6 +5,7 @@
 mod check;
 mod elaborate;
 pub mod fault;
+pub mod laws;
 mod mentions;
 mod names;
 pub mod role;

@@ -23,8 +23,8 @@ pub returns-in_err-rule_out-2-clause-faults : goal.returns-in_err-rule_out-2-cla
 returns-in_err-rule_out-2-clause-faults c =
     let p = err_from_is_err_and c.from_residual-in_err-rule_out-2.result c.from_residual-in_err-rule_out-2.ensures.1 in
     rw (p.1, p.2) (λ other m are.
-        drivers-fault m _ _ are (has-output m _ _ are c.in_ok-rule_out.ensures.none (sym c.if-not-has_output.ensures))
-        _ (c.in_err-rule_out-2.ensures.first other))
+    drivers-fault m _ _ are (has-output m _ _ are c.in_ok-rule_out.ensures.none (sym c.if-not-has_output.ensures))
+    _ (c.in_err-rule_out-2.ensures.first other))
 
 pub returns-clause-driven : goal.returns-clause-driven
 returns-clause-driven c = on_ok_weaker c.rule_out-3.result (λ none m are.
@@ -37,6 +37,6 @@ returns-clause-faults c =
     IfErr-weaker c.rule_out-3.result (λ fault. fault ≢ NoMemory → IsFirst Undriven c.args.names.now c.args.uses.now fault)
     (λ fault. fault ≢ NoMemory → (m : ModuleTree) → AreUses m c.args.names.now c.args.uses.now → IsFault m fault)
     (λ fault first other m are.
-        let output = has-output m _ _ are c.in_ok-rule_out.ensures.none (sym c.if-not-has_output.ensures) in
-        undriven-fault m _ _ are (is-driven_once m _ _ are output c.in_ok-rule_out-2.ensures.none) fault (first other))
+    let output = has-output m _ _ are c.in_ok-rule_out.ensures.none (sym c.if-not-has_output.ensures) in
+    undriven-fault m _ _ are (is-driven_once m _ _ are output c.in_ok-rule_out-2.ensures.none) fault (first other))
     c.rule_out-3.ensures.first

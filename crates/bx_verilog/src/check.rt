@@ -63,7 +63,7 @@ impl Flaw {
     }
 }
 
-/// The name with a number, of its own.
+/// A copy of the name with this number.
 fn name(alloc: Global, names: &Names, number: u32) -> Result<Name, NoMemory>
     requires { number < length names.now }
     ensures { IfOk result (λ name. name ≡ slice_index_or names.now number []) }
@@ -71,6 +71,7 @@ fn name(alloc: Global, names: &Names, number: u32) -> Result<Name, NoMemory>
     Ok(Name::new(names.name(number).to_vec(alloc)?))
 }
 
+/// Whether one of the names is an output.
 fn has_output(uses: &[Uses]) -> bool
     ensures { result ≡ list_any (λ u. nat_lt 0 u.output) uses.now }
 {

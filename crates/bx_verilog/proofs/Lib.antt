@@ -1,4 +1,5 @@
 pub mod Firsts
+pub mod Formulas
 pub mod Members
 pub mod MentionSizes
 pub mod Numbering

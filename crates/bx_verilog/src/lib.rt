@@ -4,6 +4,7 @@
 
 mod elaborate;
 pub mod fault;
+pub mod laws;
 mod mentions;
 mod names;
 pub mod role;

@@ -1,6 +1,15 @@
+pub mod Arity
+pub mod Cyclic
+pub mod Driving
+pub mod ElaboratedNets
 pub mod Firsts
 pub mod Formulas
+pub mod FormulaValues
+pub mod InnerNets
+pub mod Inputs
+pub mod Meanings
 pub mod Members
+pub mod Membership
 pub mod MentionSizes
 pub mod Numbering
 pub mod OneMeaning

@@ -6,6 +6,7 @@ pub mod ElaboratedNets
 pub mod Firsts
 pub mod Flaws
 pub mod FormulaValues
+pub mod Formulas
 pub mod InnerNets
 pub mod Inputs
 pub mod Meanings
@@ -13,4 +14,5 @@ pub mod Members
 pub mod Membership
 pub mod MentionSizes
 pub mod Numbering
+pub mod OneMeaning
 pub mod Places

@@ -1,17 +1,23 @@
 //! Laws of the definitions that the contracts cite. Nothing here runs.
-ghost use Rattle.std.specs.Prelude.{◌↔◌, ◌≤◌, Bool, List, map, Contains};
+ghost use Rattle.std.specs.Prelude.{◌≡◌, ◌↔◌, ◌≤◌, Bool, List, Result, map, Contains};
 ghost use Rattle.std.specs.List.{AllZip};
-ghost use Rattle.bx_logic.specs.Nets.{IsAcyclic, IsNet};
+ghost use Rattle.bx_logic.specs.Nets.{IsAcyclic, IsNet, Netlist};
 ghost use Rattle.bx_logic.specs.Values.{IsNetValuation, AreOutputValues, value_of};
 ghost use Rattle.bx_syntax.specs.Parts.{ModuleTree};
 ghost use Rattle.bx_syntax.specs.Texts.{IsTree};
-ghost use Rattle.bx_verilog.specs.Elaboration.{net_of};
+ghost use Rattle.bx_verilog.specs.declared.fault.NetFault.{NetFault};
+ghost use Rattle.bx_verilog.specs.Elaboration.{Elaborates, net_of};
 ghost use Rattle.bx_verilog.specs.Equations.{Assignment, Gives, module_of};
 ghost use Rattle.bx_verilog.specs.Faults.{IsAccepted, IsDriven, IsFree, IsOnCycle};
 ghost use Rattle.bx_verilog.specs.Formulas.{Text};
 ghost use Rattle.bx_verilog.specs.Mentions.{count, inputs, is_driven, number, outputs};
 
 pub mod expressions;
+
+/// A module has one meaning: a net, or a first fault.
+pub fn one_meaning()
+    ensures { (m : ModuleTree) (r s : Result Netlist NetFault) → Elaborates m r → Elaborates m s → r ≡ s }
+{}
 
 /// A name depends on itself by the equations of a module exactly where a net of the module's net does.
 pub fn a_cycle_of_names_is_one_of_nets()

@@ -1,7 +1,9 @@
 pub mod Arity
 pub mod Cyclic
+pub mod Decisions
 pub mod Driving
 pub mod ElaboratedNets
+pub mod Existence
 pub mod Firsts
 pub mod FormulaValues
 pub mod InnerNets

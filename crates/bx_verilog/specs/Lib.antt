@@ -13,4 +13,5 @@ pub mod Mentions
 pub mod Faults
 pub mod Equations
 pub mod Elaboration
+pub mod Examples
 pub mod Shown

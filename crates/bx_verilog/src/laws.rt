@@ -11,6 +11,7 @@ ghost use Rattle.bx_verilog.specs.Faults.{IsAccepted, IsDriven, IsFree, IsOnCycl
 ghost use Rattle.bx_verilog.specs.Formulas.{Text};
 ghost use Rattle.bx_verilog.specs.Mentions.{count, inputs, is_driven, number, outputs};
 
+pub mod existence;
 pub mod expressions;
 
 /// A name depends on itself by the equations of a module exactly where a net of the module's net does.

@@ -1,8 +1,10 @@
 pub mod Arity
 pub mod Counting
 pub mod Cyclic
+pub mod Decisions
 pub mod Driving
 pub mod ElaboratedNets
+pub mod Existence
 pub mod Firsts
 pub mod Flaws
 pub mod FormulaValues

@@ -12,6 +12,7 @@ ghost use Rattle.bx_verilog.specs.Faults.{IsAccepted, IsDriven, IsFree, IsOnCycl
 ghost use Rattle.bx_verilog.specs.Formulas.{Text};
 ghost use Rattle.bx_verilog.specs.Mentions.{count, inputs, is_driven, number, outputs};
 
+pub mod existence;
 pub mod expressions;
 
 /// A module has one meaning: a net, or a first fault.

@@ -14,3 +14,5 @@ pub mod Faults
 pub mod Equations
 pub mod Elaboration
 pub mod Shown
+pub mod Uses
+pub mod Flaws

@@ -230,8 +230,9 @@ fn kept(rt: HostRuntime) -> Result<(), Fail> {
     };
     assert_eq!(rt; module.name().as_slice(), b"m".as_slice());
     assert_eq!(rt; module.ports().len(), 2);
-    assert_eq!(rt; module.items().len(), 3);
-    let [Part::Assign(target, Expr::Net(source))] = module.items()[2].as_slice() else {
+    let items = module.items();
+    assert_eq!(rt; items.len(), 3);
+    let [Part::Assign(target, Expr::Net(source))] = items[2].as_slice() else {
         return Err("the last item is one assignment of a net".into());
     };
     assert_eq!(rt; target.as_slice(), b"y".as_slice());

@@ -14,3 +14,4 @@ pub mod Faults
 pub mod Equations
 pub mod Elaboration
 pub mod Shown
+pub mod Lowering

@@ -3,8 +3,10 @@
 #![tactic(auto)]
 
 mod elaborate;
+mod expression;
 pub mod fault;
 mod mentions;
+mod names;
 pub mod role;
 
 pub use bx_syntax::{Construct, Module, ReadFault, read_module};

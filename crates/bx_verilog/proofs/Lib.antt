@@ -1,1 +1,6 @@
+pub mod Firsts
 pub mod Lowering
+pub mod Members
+pub mod MentionSizes
+pub mod Numbering
+pub mod Places

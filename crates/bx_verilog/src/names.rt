@@ -27,11 +27,15 @@ impl<'a> Model for Names<'a> {
 
 impl<'a> Names<'a> {
     /// The names of these mentions, by first appearance.
-    pub fn of(_alloc: Global, _mentions: &[Mention<'a>]) -> Result<Self, NoMemory>
-        requires { length _mentions.now < 4294967296 }
-        ensures { IfOk result (λ names. names ≡ firsts (map (λ x. x.name.now) _mentions.now)) }
+    pub fn of(alloc: Global, mentions: &[Mention<'a>]) -> Result<Self, NoMemory>
+        requires { length (firsts (map (λ x. x.name.now) mentions.now)) < 4294967296 }
+        ensures { IfOk result (λ names. names ≡ firsts (map (λ x. x.name.now) mentions.now)) }
     {
-        Err(NoMemory)
+        let mut set = IndexSet::new(alloc);
+        for mention in mentions {
+            set.insert(mention.name)?;
+        }
+        Ok(Names { set })
     }
 
     /// How many names there are.

@@ -1,6 +1,10 @@
+pub mod Arity
+pub mod Driving
 pub mod Firsts
+pub mod InnerNets
 pub mod Lowering
 pub mod Members
+pub mod Membership
 pub mod MentionSizes
 pub mod Numbering
 pub mod Places

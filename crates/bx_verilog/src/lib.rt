@@ -5,6 +5,7 @@
 mod elaborate;
 mod expression;
 pub mod fault;
+pub mod laws;
 mod mentions;
 mod names;
 pub mod role;

@@ -1,4 +1,5 @@
 pub mod Arity
+pub mod Counting
 pub mod Driving
 pub mod Firsts
 pub mod InnerNets

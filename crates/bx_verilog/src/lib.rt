@@ -9,6 +9,7 @@ pub mod laws;
 mod mentions;
 mod names;
 pub mod role;
+mod uses;
 
 pub use bx_syntax::{Construct, Module, ReadFault, read_module};
 pub use elaborate::to_net;

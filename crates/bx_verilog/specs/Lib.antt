@@ -14,8 +14,5 @@ pub mod Faults
 pub mod Equations
 pub mod Elaboration
 pub mod Shown
-<<<<<<< HEAD
 pub mod Lowering
-=======
 pub mod Uses
->>>>>>> a8ea1045ad2f429f36402031a2c8b51003c23482

@@ -1,8 +1,14 @@
--- What expressions add to the drivers of the nets behind those of the names.
-use Rattle.std.specs.Prelude.{◌≡◌, ℕ, ◌+◌, List, ◌++◌, length}
+-- What expressions and drives add to the drivers of a net.
+use Rattle.std.specs.Prelude.{◌≡◌, ℕ, ◌+◌, List, [], ◌∷◌, ◌++◌, map, length, position, Option, Some, None}
+use Rattle.std.specs.List.{sum_by}
+use Rattle.std.specs.Str.{bytes_eq}
 use Rattle.bx_logic.specs.declared.driver.Driver.{Driver}
-use Rattle.bx_verilog.specs.Formulas.{Text, Formula}
-use Rattle.bx_verilog.specs.Elaboration.{net_number, own_drivers, net_numbers, all_own_drivers}
+use Rattle.bx_syntax.specs.Trees.{tree}
+use Rattle.bx_verilog.specs.declared.drivers.Drive.{Drive as Found}
+use Rattle.bx_verilog.specs.declared.drivers.NetDrivers.{NetDrivers}
+use Rattle.bx_verilog.specs.Formulas.{Text, Formula, formula}
+use Rattle.bx_verilog.specs.Drives.{Drive}
+use Rattle.bx_verilog.specs.Elaboration.{all_own, net_number, own_drivers, net_numbers, all_own_drivers, inner_drivers, gate_of, chosen}
 use Rattle.bx_verilog.specs.Shown.{number_among}
 
 -- behind some drivers stand those of a formula's own nets, and this is the number of its net
@@ -14,3 +20,28 @@ pub record IsLowered (names : List Text) (before after : List Driver) (f : Formu
 pub record AreLowered (names : List Text) (before after : List Driver) (fs : List Formula) (nets : List ℕ) : Type 0 where
   pub drivers : after ≡ before ++ all_own_drivers (number_among names) (length names + length before) fs
   pub numbers : nets ≡ net_numbers (number_among names) (length names + length before) fs
+
+-- what the code's drive is, without where it lies in memory
+abbrev pub shown_drive : Found → Drive
+shown_drive d = record { targets = d.targets.now; op = d.op; arguments = map formula (map tree d.arguments.now) }
+
+abbrev pub shown_drives : Option Found → List Drive
+shown_drives None = []
+shown_drives (Some d) = shown_drive d ∷ []
+
+-- how many nets of their own the arguments of these have
+abbrev pub inner_size : List Drive → ℕ
+inner_size ds = sum_by (λ (d : Drive). all_own d.arguments) ds
+
+-- what drives a name that these drive, or that is one of these inputs
+abbrev pub driver_among : List Text → List Text → List Drive → Text → Driver
+driver_among names inputs ds n = chosen (gate_of (number_among names) (length names) ds n) (position (bytes_eq n) inputs)
+
+-- the drivers of the names and those of the other nets, where these drive them
+pub record AreDrivers (names inputs : List Text) (ds : List Drive) (all : NetDrivers) : Type 0 where
+  pub named : all.named.items ≡ map (driver_among names inputs ds) names
+  pub inner : all.inner.items ≡ inner_drivers (number_among names) (length names) ds
+
+-- the same, and then what these more drive
+abbrev pub AreDriversToo : List Text → List Drive → NetDrivers → NetDrivers → Type 0
+AreDriversToo names more before after = (inputs : List Text) (ds : List Drive) → AreDrivers names inputs ds before → AreDrivers names inputs (ds ++ more) after

@@ -2,6 +2,7 @@
 //! net of a module, or the first thing that is wrong with it.
 #![tactic(auto)]
 
+mod drivers;
 mod elaborate;
 mod expression;
 pub mod fault;

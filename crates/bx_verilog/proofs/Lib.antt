@@ -1,5 +1,6 @@
 pub mod Arity
 pub mod Counting
+pub mod DriverSteps
 pub mod Driving
 pub mod Firsts
 pub mod InnerNets

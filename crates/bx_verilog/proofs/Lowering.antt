@@ -1,6 +1,6 @@
 -- The nets of expressions, one step at a time.
 use Rattle.std.proofs.Common.{◌≡◌, ℕ, zero, suc, ◌+◌, ◌<◌, ◌≤◌, List, [], ◌∷◌, ◌++◌, length, length-append, append_assoc, get_or, take, drop, map, refl, sym, ap, ◌∙◌, arith, subst, Vec, Box, Global, Result, Ok, Err, OnOk, IfOk}
-use Rattle.std.proofs.lemmas.List.{append-nil, take_more, take-append-drop}
+use Rattle.std.proofs.lemmas.List.{append-nil, length-map, take_more, take-append-drop}
 use Rattle.bx_logic.specs.declared.op.Op.{Op}
 use Rattle.bx_logic.specs.declared.memory.NoMemory.{NoMemory}
 use Rattle.bx_logic.specs.declared.op.Op.TheVariants.{Not as NotGate}
@@ -207,3 +207,7 @@ expression_fits names before middle es k e places h is low =
     let s = ap (λ x. all_own (formulas x)) (take-append-drop (k + 1) es) in
     let d = formulas-split (take (k + 1) es) (drop (k + 1) es) in
     omega arith
+
+pub some_nets : (names : List Text) (before after : List Driver) (es : List Expr) (places : List ℕ) → 0 < length es → AreLowered names before after (formulas es) places → 0 < length places
+some_nets names before after es places h low =
+    omega (arith, ap length low.numbers, length-net_numbers (number_among names) (length names + length before) (formulas es), length-map (map tree es) formula, length-map es tree)

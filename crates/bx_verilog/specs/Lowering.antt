@@ -1,13 +1,16 @@
 -- What expressions and drives add to the drivers of a net.
-use Rattle.std.specs.Prelude.{◌≡◌, ℕ, ◌+◌, List, [], ◌∷◌, ◌++◌, map, length, position, Option, Some, None}
-use Rattle.std.specs.List.{sum_by}
+use Rattle.std.specs.Prelude.{◌≡◌, ℕ, ◌+◌, ◌<◌, List, [], ◌∷◌, ◌++◌, map, flat_map, length, position, Option, Some, None, Vec}
+use Rattle.std.specs.List.{sum_by, AllByRecursion}
+use Rattle.std.specs.declared.alloc.Global.{Global}
 use Rattle.std.specs.Str.{bytes_eq}
 use Rattle.bx_logic.specs.declared.driver.Driver.{Driver}
+use Rattle.bx_syntax.specs.declared.tree.Part.{Part}
 use Rattle.bx_syntax.specs.Trees.{tree}
+use Rattle.bx_syntax.specs.Parts.{part}
 use Rattle.bx_verilog.specs.declared.drivers.Drive.{Drive as Found}
 use Rattle.bx_verilog.specs.declared.drivers.NetDrivers.{NetDrivers}
 use Rattle.bx_verilog.specs.Formulas.{Text, Formula, formula}
-use Rattle.bx_verilog.specs.Drives.{Drive}
+use Rattle.bx_verilog.specs.Drives.{Drive, drives_of}
 use Rattle.bx_verilog.specs.Elaboration.{all_own, net_number, own_drivers, net_numbers, all_own_drivers, inner_drivers, gate_of, chosen}
 use Rattle.bx_verilog.specs.Shown.{number_among}
 
@@ -42,6 +45,18 @@ pub record AreDrivers (names inputs : List Text) (ds : List Drive) (all : NetDri
   pub named : all.named.items ≡ map (driver_among names inputs ds) names
   pub inner : all.inner.items ≡ inner_drivers (number_among names) (length names) ds
 
--- the same, and then what these more drive
-abbrev pub AreDriversToo : List Text → List Drive → NetDrivers → NetDrivers → Type 0
-AreDriversToo names more before after = (inputs : List Text) (ds : List Drive) → AreDrivers names inputs ds before → AreDrivers names inputs (ds ++ more) after
+-- what was there before, and then what these more drive
+pub record AreDriversToo (names : List Text) (more : List Drive) (before after : NetDrivers) : Type 0 where
+  pub count : length after.inner.items ≡ length before.inner.items + inner_size more
+  pub drivers : (inputs : List Text) (ds : List Drive) → AreDrivers names inputs ds before → AreDrivers names inputs (ds ++ more) after
+
+-- each of these has an argument
+abbrev pub HaveArguments : List Drive → Type 0
+HaveArguments ds = AllByRecursion (λ (d : Drive). 0 < length d.arguments) ds
+
+-- what the code's parts and items drive
+abbrev pub part_drives : Part → List Drive
+part_drives p = drives_of (part p)
+
+abbrev pub item_drives : Vec Part Global → List Drive
+item_drives item = flat_map part_drives item.items

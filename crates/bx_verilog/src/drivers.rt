@@ -3,19 +3,19 @@
 //! two drivers and none lacks one is left to others: here the last gate counts, and a name that nothing
 //! drives is 0.
 ghost use Rattle.std.specs.Prelude.{◌≡◌, ◌+◌, ◌<◌, ◌++◌, [], ◌∷◌, List, length, map, flat_map, position, slice_set, false, if◌then◌else◌, IfOk, OnOk};
-ghost use Rattle.std.specs.List.{list_any, AllByRecursion};
+ghost use Rattle.std.specs.List.{list_any};
 ghost use Rattle.std.specs.Str.{bytes_eq};
 ghost use Rattle.bx_logic.specs.declared.driver.Driver.{Driver as NetDriver};
 ghost use Rattle.bx_logic.specs.declared.driver.Driver.TheVariants.{Input, Constant, Gate};
 ghost use Rattle.bx_logic.specs.Lists.{AreDistinct};
 ghost use Rattle.bx_syntax.specs.Trees.{tree};
-ghost use Rattle.bx_syntax.specs.Parts.{part as part_tree, parts};
+ghost use Rattle.bx_syntax.specs.Parts.{part as part_tree};
 ghost use Rattle.bx_verilog.specs.Formulas.{Text, formula};
 ghost use Rattle.bx_verilog.specs.Drives.{drives_of, drives as drives_in};
 ghost use Rattle.bx_verilog.specs.Mentions.{names as names_in, number, inputs as inputs_in};
 ghost use Rattle.bx_verilog.specs.Elaboration.{chosen, all_own, name_count, driver_of, inner_drivers};
 ghost use Rattle.bx_verilog.specs.Shown.{number_among};
-ghost use Rattle.bx_verilog.specs.Lowering.{shown_drive, shown_drives, inner_size, AreDriversToo, AreDrivers};
+ghost use Rattle.bx_verilog.specs.Lowering.{shown_drive, shown_drives, inner_size, AreDriversToo, HaveArguments, part_drives, item_drives};
 
 use crate::expression::nets_of_expressions;
 use crate::names::Names;
@@ -88,19 +88,20 @@ fn input_drivers(alloc: Global, names: &Names, inputs: &[Name]) -> Result<Vec<Dr
 
 /// Has the gate of an operation over these nets drive each of these names.
 fn drive_all(
+    alloc: Global,
     named: &mut Vec<Driver>,
     names: &Names,
     targets: &[Name],
     op: Op,
-    nets: &Vec<u32>,
+    nets: &[u32],
 ) -> Result<(), NoMemory>
     requires distinct { AreDistinct names.now }
-    requires some { 0 < length nets.now.items }
+    requires some { 0 < length nets.now }
     ensures { OnOk result ((F : Text → NetDriver) → named.old.items ≡ map F names.now
-        → named.new.items ≡ map (λ n. if list_any (bytes_eq n) targets.now then Gate op nets.now.items else F n) names.now) }
+        → named.new.items ≡ map (λ n. if list_any (bytes_eq n) targets.now then Gate op nets.now else F n) names.now) }
 {
     for target in targets {
-        let arguments = Args::new(nets.clone()?);
+        let arguments = Args::new(nets.to_vec(alloc)?);
         set_driver(named, names, target, Driver::Gate(op, arguments));
     }
     Ok(())
@@ -122,15 +123,22 @@ impl NetDrivers {
         ensures { OnOk result (AreDriversToo names.now (shown_drive drive.entry ∷ []) self.old self.new) }
     {
         let nets = nets_of_expressions(alloc, names, &mut self.inner, drive.arguments)?;
-        drive_all(&mut self.named, names, drive.targets, drive.op, &nets)
+        drive_all(
+            alloc,
+            &mut self.named,
+            names,
+            drive.targets,
+            drive.op,
+            &nets,
+        )
     }
 
     /// Adds what the parts of an item say.
     fn drive_parts(&mut self, alloc: Global, names: &Names, parts: &[Part]) -> Result<(), NoMemory>
         requires distinct { AreDistinct names.now }
-        requires some { AllByRecursion (λ d. 0 < length d.arguments) (flat_map drives_of (map part_tree parts.now)) }
-        requires fits { length names.now + length self.old.inner.items + inner_size (flat_map drives_of (map part_tree parts.now)) < 4294967296 }
-        ensures { OnOk result (AreDriversToo names.now (flat_map drives_of (map part_tree parts.now)) self.old self.new) }
+        requires some { HaveArguments (flat_map part_drives parts.now) }
+        requires fits { length names.now + length self.old.inner.items + inner_size (flat_map part_drives parts.now) < 4294967296 }
+        ensures { OnOk result (AreDriversToo names.now (flat_map part_drives parts.now) self.old self.new) }
     {
         for part in parts {
             if let Some(drive) = drive_of(part) {
@@ -148,9 +156,9 @@ impl NetDrivers {
         items: &[Vec<Part>],
     ) -> Result<(), NoMemory>
         requires distinct { AreDistinct names.now }
-        requires some { AllByRecursion (λ d. 0 < length d.arguments) (flat_map drives_of (flat_map (λ item. item) (map parts items.now))) }
-        requires fits { length names.now + length self.old.inner.items + inner_size (flat_map drives_of (flat_map (λ item. item) (map parts items.now))) < 4294967296 }
-        ensures { OnOk result (AreDriversToo names.now (flat_map drives_of (flat_map (λ item. item) (map parts items.now))) self.old self.new) }
+        requires some { HaveArguments (flat_map item_drives items.now) }
+        requires fits { length names.now + length self.old.inner.items + inner_size (flat_map item_drives items.now) < 4294967296 }
+        ensures { OnOk result (AreDriversToo names.now (flat_map item_drives items.now) self.old self.new) }
     {
         for item in items {
             self.drive_parts(alloc, names, item)?;
@@ -166,12 +174,12 @@ pub(crate) fn drivers(
     inputs: &[Name],
     module: &Module,
 ) -> Result<Vec<Driver>, NoMemory>
-    requires names { names.now ≡ names_in module.now }
-    requires inputs { inputs.now ≡ inputs_in module.now }
-    requires some { AllByRecursion (λ d. 0 < length d.arguments) (drives_in module.now) }
+    requires names { names.now ≡ names_in «module».now }
+    requires inputs { inputs.now ≡ inputs_in «module».now }
+    requires some { HaveArguments (drives_in «module».now) }
     requires few { length inputs.now < 4294967296 }
-    requires fits { name_count module.now + inner_size (drives_in module.now) < 4294967296 }
-    ensures { IfOk result (λ drivers. drivers.items ≡ map (driver_of module.now) (names_in module.now) ++ inner_drivers (number module.now) (name_count module.now) (drives_in module.now)) }
+    requires fits { name_count «module».now + inner_size (drives_in «module».now) < 4294967296 }
+    ensures { IfOk result (λ drivers. drivers.items ≡ map (driver_of «module».now) (names_in «module».now) ++ inner_drivers (number «module».now) (name_count «module».now) (drives_in «module».now)) }
 {
     let mut drivers = NetDrivers {
         named: input_drivers(alloc, names, inputs)?,

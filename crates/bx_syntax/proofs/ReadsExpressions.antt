@@ -459,11 +459,6 @@ pub row_tail-items : (n : _) (r : Row_of-Operand n) → row_tail r ≡ tail (ite
 row_tail-items _ end_of-Operand = refl
 row_tail-items _ (more_of-Operand o e r) = ap (link o (tree e)) (row_tail-items _ r)
 
--- a level is read as its first operand and further ones
-pub level_is : (p : Reader Tree) (k : ℕ) (ts : List Terminal) → level_at p (suc k) ts ≡ (level_at p k ts >>= λ x. tail_at (level_at p k) k x.1 >>= λ y. Some (started x.0 y.0, y.1))
-unfolding level_at joined_at
-level_is p k ts = refl
-
 pub primary_tilde : (d : ℕ) (ts : List Terminal) → primary_at d (Mark Tilde ∷ ts) ≡ inverse_at d ts
 unfolding primary_at
 primary_tilde zero ts = refl

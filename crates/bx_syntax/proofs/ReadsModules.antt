@@ -39,13 +39,6 @@ name_reads (GateWord s ∷ ts) x e = absurd (cc)
 name_reads (Bit s ∷ ts) x e = absurd (cc)
 name_reads (Other ∷ ts) x e = absurd (cc)
 
-next_is-some : (s : Sign) (ts : List Terminal) → next_is s ts ≡ true → (rest : List Terminal) × (behind s ts ≡ Some rest)
-next_is-some s ts e = by_rest (behind s ts) e
-  where
-    by_rest : (o : Option (List Terminal)) → is_some o ≡ true → (rest : List Terminal) × (o ≡ Some rest)
-    by_rest None e = absurd (cc)
-    by_rest (Some r) e = (r, refl)
-
 past_mark : (s r : Sign) (ts : List Terminal) → Mark r ∷ ts ≡ Mark s ∷ ts ⊎ (next_is s (Mark r ∷ ts) ≡ false)
 past_mark s r ts = by_rest (behind s (Mark r ∷ ts)) refl
   where

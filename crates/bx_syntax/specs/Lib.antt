@@ -1,4 +1,3 @@
-pub use Rattle.bx_logic.specs.Op
 pub mod Trees
 pub mod Expressions
 pub mod ReadsExpressions

@@ -1,4 +1,5 @@
-//! Why a text is refused as a module.
+//! Why a text is refused as a module. Which reason a text has is for the reader to say.
+
 /// A construct of the language that the profile doesn't take.
 #[derive(Clone, Copy, Debug, PartialEq, Eq)]
 pub enum Construct {

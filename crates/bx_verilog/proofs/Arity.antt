@@ -1,12 +1,12 @@
 -- In a module of some text each gate has as many arguments as its operation takes, and at least one.
-use Rattle.std.proofs.Common.{◌≡◌, ◌≢◌, ℕ, ◌<◌, List, [], ◌∷◌, map, length, Contains, Option, Some, None, refl, sym, subst, ◌∙◌, arith, inl, inr}
+use Rattle.std.proofs.Common.{◌≢◌, ℕ, ◌<◌, List, [], ◌∷◌, map, length, Contains, Some, None, refl, sym, subst, ◌∙◌, arith, inl, inr}
 use Rattle.std.proofs.lemmas.List.{length-map}
 use Rattle.bx_logic.specs.declared.op.Op.{Op}
-use Rattle.bx_logic.specs.declared.op.Op.TheVariants.{Buf, Not, And, Or, Nand, Nor, Xor, Xnor}
+use Rattle.bx_logic.specs.declared.op.Op.TheVariants.{Buf, Not}
 use Rattle.bx_logic.specs.Nets.{HasArity}
 use Rattle.bx_syntax.specs.declared.terminal.Terminal.{Terminal}
 use Rattle.bx_syntax.specs.declared.part.Kind.{Kind}
-use Rattle.bx_syntax.specs.declared.part.Kind.TheVariants.{Declaration, Wire, Assign, Gate}
+use Rattle.bx_syntax.specs.declared.part.Kind.TheVariants.{Gate}
 use Rattle.bx_syntax.specs.Trees.{Tree}
 use Rattle.bx_syntax.specs.Parts.{PartTree, declaration, wire, assign, gate, copies, ModuleTree}
 use Rattle.bx_syntax.specs.Grammar.{Between, AreMore, AreListed, IsExpr, IsGate, IsPart, AreItems}

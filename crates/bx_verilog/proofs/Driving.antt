@@ -1,16 +1,15 @@
 -- What drives and what reads a name: its mentions, and the drives of the module.
-use Rattle.std.proofs.Common.{◌≡◌, ℕ, suc, ◌+◌, ◌<◌, ◌≤◌, ◌&&◌, Bool, true, false, cond, List, [], ◌∷◌, ◌++◌, map, flat_map, length, get_or, Contains, Option, Some, None, ◌⊎◌, refl, sym, ap, ◌∙◌, subst, arith, inl, inr}
+use Rattle.std.proofs.Common.{◌≡◌, ℕ, ◌+◌, ◌≤◌, ◌&&◌, Bool, true, false, cond, List, [], ◌∷◌, ◌++◌, map, flat_map, get_or, Contains, Option, Some, None, ◌⊎◌, refl, sym, ap, ◌∙◌, subst, arith, inl, inr}
 use Rattle.std.specs.Prelude.{if◌then◌else◌}
 use Rattle.std.specs.List.{count_by, list_any, position}
 use Rattle.std.specs.Option.{option_or}
 use Rattle.std.specs.Str.{bytes_eq}
 use Rattle.std.proofs.Math.Bool.{and-true}
 use Rattle.std.proofs.lemmas.Bool.{cases_Bool, false_from_ne_true}
-use Rattle.std.proofs.lemmas.List.{append-nil, append_assoc}
+use Rattle.std.proofs.lemmas.List.{append-nil}
 use Rattle.std.proofs.lemmas.List.Concat.{flat_map-append}
-use Rattle.std.proofs.lemmas.List.Sums.{sum_by-cons, sum_by-append}
-use Rattle.std.proofs.lemmas.List.Folds.{Any-from_list_any, list_any_at}
-use Rattle.std.proofs.lemmas.Slice.Eq.{bytes_eq-Decides}
+use Rattle.std.proofs.lemmas.List.Folds.{list_any_at}
+use Rattle.std.proofs.lemmas.Map.Views.{Contains-from_any}
 use Rattle.bx_logic.specs.declared.op.Op.{Op}
 use Rattle.bx_logic.specs.declared.driver.Driver.{Driver}
 use Rattle.bx_logic.specs.declared.driver.Driver.TheVariants.{Input as InputDriver, Constant, Gate}
@@ -25,7 +24,9 @@ use Rattle.bx_verilog.specs.Formulas.{Text, Formula, formula, names_of}
 use Rattle.bx_verilog.specs.Drives.{Drive, drive, drives_of, parts_of, drives}
 use Rattle.bx_verilog.specs.Mentions.{Mention, all_as, direction_mentions, port_mentions, reads_mentions, part_mentions, mentions, count, is_driven, inputs, number}
 use Rattle.bx_verilog.specs.Elaboration.{all_own, net_numbers, gate_of, name_count, chosen, driver_of}
-use Rattle.bx_verilog.proofs.Membership.{Member, Contains-from_member, Member-from_get_or, Member-from_contains, Member-append_left, Member-append_right, Member-append_cases, Member-map, Member-map_cases, Member-flat_map, Member-flat_map_cases, Member-splits}
+use Rattle.bx_verilog.proofs.Membership.{Member, Contains-from_member, Member-from_contains, Member-append_left, Member-append_right, Member-append_cases, Member-map, Member-map_cases, Member-flat_map, Member-flat_map_cases, counted, counted-append, counted-same}
+use Rattle.bx_verilog.proofs.Firsts.{same_texts, same_bytes}
+use Rattle.bx_verilog.proofs.Members.{count_by-some}
 use Rattle.bx_verilog.proofs.InnerNets.{drives_own}
 
 targets-driven : (ns : List Text) (rest : List Mention) (n : Text) → Member n ns → Member (n, Driven) (all_as Driven ns ++ rest)
@@ -143,34 +144,6 @@ mention-drive m n c =
           )
     ]
 
--- Counts.
-
-counted : {X : Type 0} (p : X → Bool) (x : X) (xs : List X) → count_by p (x ∷ xs) ≡ cond (p x) 1 0 + count_by p xs
-counted p x xs = sum_by-cons (λ y. cond (p y) 1 0) x xs
-
-counted-append : {X : Type 0} (p : X → Bool) (xs ys : List X) → count_by p (xs ++ ys) ≡ count_by p xs + count_by p ys
-counted-append p xs ys = sum_by-append (λ y. cond (p y) 1 0) xs ys
-
-one_of : (b : Bool) → b ≡ true → ◌≡◌ {A = ℕ} (cond b 1 0) 1
-one_of true e = refl
-one_of false e = cc
-
-counted-member : {X : Type 0} (p : X → Bool) (x : X) (xs : List X) → Member x xs → p x ≡ true → 1 ≤ count_by p xs
-counted-member p x [] h passes = absurd h
-counted-member p x (y ∷ ys) (inl e) passes = omega (arith, counted p y ys, one_of (p y) (ap p e ∙ passes))
-counted-member p x (y ∷ ys) (inr h) passes = omega (arith, counted p y ys, counted-member p x ys h passes)
-
--- two that pass, where one passes at most, are the same
-counted-same : {X : Type 0} (p : X → Bool) (x y : X) (xs : List X) → count_by p xs ≤ 1 → Member x xs → Member y xs → p x ≡ true → p y ≡ true → x ≡ y
-counted-same p x y [] few h k i j = absurd h
-counted-same p x y (z ∷ zs) few (inl e) (inl f) i j = sym e ∙ f
-counted-same p x y (z ∷ zs) few (inl e) (inr k) i j =
-    absurd (omega (arith, counted p z zs, one_of (p z) (ap p e ∙ i), counted-member p y zs k j))
-counted-same p x y (z ∷ zs) few (inr h) (inl f) i j =
-    absurd (omega (arith, counted p z zs, one_of (p z) (ap p f ∙ j), counted-member p x zs h i))
-counted-same p x y (z ∷ zs) few (inr h) (inr k) i j =
-    counted-same p x y zs (omega (arith, counted p z zs)) h k i j
-
 -- the mentions by which a name is driven
 abbrev drives_name : Text → Mention → Bool
 drives_name n x = bytes_eq n x.0 && is_driven x.1
@@ -209,7 +182,7 @@ pub few-targets : (m : ModuleTree) (n : Text) → count_by (bytes_eq n) (targets
 few-targets m n = omega (arith, parts-targets n (parts_of m), counted-append (drives_name n) (flat_map port_mentions m.ports) (flat_map part_mentions (parts_of m)))
 
 drives-itself : (n : Text) (r : Role) → is_driven r ≡ true → drives_name n (n, r) ≡ true
-drives-itself n r e = ap (λ b. b && is_driven r) ((bytes_eq-Decides n n).1 refl) ∙ e
+drives-itself n r e = ap (λ b. b && is_driven r) (same_bytes n n refl) ∙ e
 
 -- where a name has one driver at most, an input is no target
 pub input-no-target : (m : ModuleTree) (n : Text) → count is_driven m n ≤ 1 → Contains (mentions m) (n, Directed Input) → (d : Drive) → Contains (drives m) d → Contains d.targets n → ⊥
@@ -223,13 +196,10 @@ input-no-target m n few c d among driven =
 -- Gates.
 
 target-passes : (n : Text) (ns : List Text) → Contains ns n → list_any (bytes_eq n) ns ≡ true
-target-passes n ns (k, l, e) = list_any_at (bytes_eq n) ns k n l ((bytes_eq-Decides n (get_or ns k n)).1 (sym e))
+target-passes n ns (k, l, e) = list_any_at (bytes_eq n) ns k n l (same_bytes n (get_or ns k n) (sym e))
 
 passes-target : (n : Text) (ns : List Text) → list_any (bytes_eq n) ns ≡ true → Contains ns n
-passes-target n ns h =
-    let (k, x, l, e, t) = Any-from_list_any (bytes_eq n) ns h in
-    let same : n ≡ x = (bytes_eq-Decides n x).0 t in
-    subst (λ (y : Text). Contains ns y) (sym same) (Contains-from_member x ns (Member-from_get_or x ns k l e))
+passes-target = Contains-from_any same_texts
 
 option_cases : {X : Type 0} (o : Option X) → (o ≡ None) ⊎ ((x : X) × (o ≡ Some x))
 option_cases None = inl refl
@@ -325,10 +295,10 @@ no-later m n few before d after e driven x later again =
     let split = ap (λ ds. count_by (bytes_eq n) (targets_of ds)) e
     ∙ ap (count_by (bytes_eq n)) (flat_map-append (λ (y : Drive). y.targets) before (d ∷ after))
     ∙ counted-append (bytes_eq n) (targets_of before) (targets_of (d ∷ after)) in
-    let itself : bytes_eq n n ≡ true = (bytes_eq-Decides n n).1 refl in
-    let here = counted-member (bytes_eq n) n d.targets (Member-from_contains n d.targets driven) itself in
-    let there = counted-member (bytes_eq n) n (targets_of after)
-    (Member-flat_map (λ (y : Drive). y.targets) x n after later (Member-from_contains n x.targets again)) itself in
+    let itself = same_bytes n n refl in
+    let here = count_by-some (bytes_eq n) d.targets n driven itself in
+    let among = Member-flat_map (λ (y : Drive). y.targets) x n after later (Member-from_contains n x.targets again) in
+    let there = count_by-some (bytes_eq n) (targets_of after) n (Contains-from_member n (targets_of after) among) itself in
     omega (arith, split, counted-append (bytes_eq n) d.targets (targets_of after), here, there, few-targets m n)
 
 -- where a name has one driver at most, the gate that drives it is that of the drive that has it as a target

@@ -1,19 +1,19 @@
 -- Where the nets of a module's expressions lie in its net, and what drives its names.
-use Rattle.std.proofs.Common.{◌≡◌, ℕ, zero, suc, ◌+◌, ◌-◌, ◌<◌, ◌≤◌, false, List, [], ◌∷◌, ◌++◌, map, length, get_or, Contains, refl, sym, ap, ◌∙◌, subst, arith, inl, inr, length-append}
+use Rattle.std.proofs.Common.{◌≡◌, ℕ, ◌+◌, ◌-◌, ◌<◌, ◌≤◌, false, List, [], ◌∷◌, ◌++◌, map, length, get_or, Contains, refl, sym, ap, ◌∙◌, subst, arith, inl, inr, length-append}
 use Rattle.std.proofs.lemmas.Bool.{cases_lt}
 use Rattle.std.proofs.lemmas.List.{length-map, get_or_append_left, get_or-append-add, get_or-map, append_assoc}
 use Rattle.std.proofs.lemmas.Option.{get_or_from_slice_get}
 use Rattle.bx_logic.specs.declared.op.Op.TheVariants.{Not}
 use Rattle.bx_logic.specs.declared.driver.Driver.{Driver}
 use Rattle.bx_logic.specs.declared.driver.Driver.TheVariants.{Constant, Gate}
-use Rattle.bx_logic.specs.Nets.{driver_at, Netlist}
+use Rattle.bx_logic.specs.Nets.{driver_at}
 use Rattle.bx_syntax.specs.Parts.{ModuleTree}
 use Rattle.bx_syntax.specs.declared.tree.Operator.{Operator}
 use Rattle.bx_verilog.specs.Formulas.{Text, Formula, named, constant, negation, pair, operation}
 use Rattle.bx_verilog.specs.Drives.{Drive, drives}
 use Rattle.bx_verilog.specs.Mentions.{names, number}
 use Rattle.bx_verilog.proofs.Numbering.{number-at, number-within}
-use Rattle.bx_verilog.specs.Elaboration.{own, all_own, net_number, own_drivers, net_numbers, all_own_drivers, inner_drivers, name_count, driver_of, net_of}
+use Rattle.bx_verilog.specs.Elaboration.{own, all_own, net_number, own_drivers, all_own_drivers, inner_drivers, name_count, driver_of, net_of}
 
 -- how many nets of their own the expressions of these have
 abbrev pub drives_own : List Drive → ℕ

@@ -1,6 +1,8 @@
--- Membership by recursion, through the functions that make a list of another.
-use Rattle.std.proofs.Common.{◌≡◌, ℕ, zero, suc, ◌<◌, ◌⊎◌, Bool, true, false, cond, List, [], ◌∷◌, ◌++◌, map, filter, flat_map, length, get_or, Contains, inl, inr, refl, sym, ap, ◌∙◌, subst, arith}
-use Rattle.std.specs.List.{AllByRecursion}
+-- Membership by recursion, through the functions that make a list of another, and counts of members.
+use Rattle.std.proofs.Common.{◌≡◌, ℕ, zero, suc, ◌+◌, ◌<◌, ◌≤◌, ◌⊎◌, Bool, true, false, cond, List, [], ◌∷◌, ◌++◌, map, filter, flat_map, length, get_or, Contains, inl, inr, refl, sym, ap, ◌∙◌, subst, arith}
+use Rattle.std.specs.List.{AllByRecursion, count_by}
+use Rattle.std.proofs.lemmas.List.Sums.{sum_by-cons, sum_by-append}
+use Rattle.bx_verilog.proofs.Members.{count_by-some}
 
 abbrev pub Member : {X : Type 0} → X → List X → Type 0
 Member x [] = ⊥
@@ -96,3 +98,26 @@ Member-splits x [] h = absurd h
 Member-splits x (y ∷ ys) (inl e) = ([], ys, ap (λ z. z ∷ ys) e)
 Member-splits x (y ∷ ys) (inr h) =
     let (before, after, e) = Member-splits x ys h in (y ∷ before, after, ap (λ zs. y ∷ zs) e)
+
+-- Counts.
+
+pub counted : {X : Type 0} (p : X → Bool) (x : X) (xs : List X) → count_by p (x ∷ xs) ≡ cond (p x) 1 0 + count_by p xs
+counted p x xs = sum_by-cons (λ y. cond (p y) 1 0) x xs
+
+pub counted-append : {X : Type 0} (p : X → Bool) (xs ys : List X) → count_by p (xs ++ ys) ≡ count_by p xs + count_by p ys
+counted-append p xs ys = sum_by-append (λ y. cond (p y) 1 0) xs ys
+
+one_of : (b : Bool) → b ≡ true → ◌≡◌ {A = ℕ} (cond b 1 0) 1
+one_of true e = refl
+one_of false e = cc
+
+-- two that pass, where one passes at most, are the same
+pub counted-same : {X : Type 0} (p : X → Bool) (x y : X) (xs : List X) → count_by p xs ≤ 1 → Member x xs → Member y xs → p x ≡ true → p y ≡ true → x ≡ y
+counted-same p x y [] few h k i j = absurd h
+counted-same p x y (z ∷ zs) few (inl e) (inl f) i j = sym e ∙ f
+counted-same p x y (z ∷ zs) few (inl e) (inr k) i j =
+    absurd (omega (arith, counted p z zs, one_of (p z) (ap p e ∙ i), count_by-some p zs y (Contains-from_member y zs k) j))
+counted-same p x y (z ∷ zs) few (inr h) (inl f) i j =
+    absurd (omega (arith, counted p z zs, one_of (p z) (ap p f ∙ j), count_by-some p zs x (Contains-from_member x zs h) i))
+counted-same p x y (z ∷ zs) few (inr h) (inr k) i j =
+    counted-same p x y zs (omega (arith, counted p z zs)) h k i j

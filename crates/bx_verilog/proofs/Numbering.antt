@@ -1,14 +1,17 @@
 -- The numbers of a module's names, and how often a name stands for something.
-use Rattle.std.proofs.Common.{◌≡◌, ℕ, ◌<◌, ◌≤◌, Bool, true, map, length, Some, refl, sym, subst, ◌&&◌}
+use Rattle.std.proofs.Common.{◌≡◌, ℕ, ◌<◌, ◌≤◌, Bool, true, List, ap, ◌∙◌, map, length, Some, refl, sym, subst, ◌&&◌}
 use Rattle.std.specs.Prelude.{slice_get}
 use Rattle.std.specs.Str.{bytes_eq}
 use Rattle.std.specs.List.{Contains}
 use Rattle.std.proofs.lemmas.Bool.{and_from, and_parts}
 use Rattle.std.proofs.lemmas.Option.{slice_get_within}
+use Rattle.std.proofs.lemmas.Simd.{map-map}
 use Rattle.bx_syntax.specs.Parts.{ModuleTree}
 use Rattle.bx_verilog.specs.declared.role.Role.{Role}
 use Rattle.bx_verilog.specs.Formulas.{Text}
-use Rattle.bx_verilog.specs.Mentions.{Mention, mentions, names, number, count}
+use Rattle.bx_verilog.specs.declared.mentions.Mention.{Mention as Found}
+use Rattle.bx_verilog.specs.Shown.{shown}
+use Rattle.bx_verilog.specs.Mentions.{firsts, Mention, mentions, names, number, count}
 use Rattle.bx_verilog.proofs.Members.{Contains-map, count_by-some, Contains-counted}
 use Rattle.bx_verilog.proofs.Firsts
 pub use Rattle.bx_verilog.proofs.Firsts.{contains-firsts, firsts-contains, firsts-distinct}
@@ -25,6 +28,10 @@ number-of m k n e = Firsts.place-of (names m) k n (firsts-distinct (map (λ (x :
 
 pub mentioned : (m : ModuleTree) (n : Text) (r : Role) → Contains (mentions m) (n, r) → Contains (names m) n
 mentioned m n r h = contains-firsts (map (λ (x : Mention). x.0) (mentions m)) n (Contains-map (λ (x : Mention). x.0) (mentions m) (n, r) h)
+
+-- the names are those of the mentions that the code found
+pub names-found : (m : ModuleTree) (found : List Found) → map shown found ≡ mentions m → firsts (map (λ (x : Found). x.name.now) found) ≡ names m
+names-found m found e = ap firsts (sym (map-map (λ (x : Mention). x.0) shown found) ∙ ap (map (λ (x : Mention). x.0)) e)
 
 module _ (test : Role → Bool) (m : ModuleTree) (n : Text) where
   pub count-some : (r : Role) → Contains (mentions m) (n, r) → test r ≡ true → 1 ≤ count test m n

@@ -5,18 +5,20 @@ use Rattle.std.specs.List.{AllByRecursion}
 use Rattle.std.specs.Str.{bytes_eq}
 use Rattle.std.proofs.lemmas.Bool.{false_from_ne_true, cases_Bool}
 use Rattle.std.proofs.lemmas.List.{get_or-map, length-map, map_more}
+use Rattle.std.proofs.lemmas.Simd.{map-map}
 use Rattle.std.proofs.lemmas.List.Elements.{Contains-get_or}
-use Rattle.std.proofs.lemmas.Option.{slice_get_within}
+use Rattle.std.proofs.lemmas.Option.{slice_get_within, get_or_from_slice_get}
 use Rattle.std.proofs.lemmas.List.Sums.{sum_by_push, count_by-le-length}
 use Rattle.bx_logic.specs.Lists.{AreDistinct}
+use Rattle.bx_syntax.specs.Parts.{ModuleTree}
 use Rattle.bx_verilog.specs.declared.role.Role.{Role}
 use Rattle.bx_verilog.specs.declared.uses.Uses.{Uses}
 use Rattle.bx_verilog.specs.Formulas.{Text}
 use Rattle.bx_verilog.specs.declared.mentions.Mention.{Mention as Found}
-use Rattle.bx_verilog.specs.Mentions.{firsts, Mention, is_header, is_directed, is_input, is_output, is_driven, is_read}
+use Rattle.bx_verilog.specs.Mentions.{firsts, Mention, mentions, names, is_header, is_directed, is_input, is_output, is_driven, is_read}
 use Rattle.bx_verilog.specs.Shown.{shown, number_among}
 use Rattle.bx_verilog.proofs.Firsts.{contains-firsts, firsts-distinct, same_texts, same_bytes, other_texts, text-at}
-use Rattle.bx_verilog.specs.Uses.{count_among, uses_among, counted, noted, HasRoom}
+use Rattle.bx_verilog.specs.Uses.{count_among, uses_among, counted, noted, HasRoom, AreUses}
 
 counted-sum : (b : Bool) (k : ℕ) → k + cond b 1 0 ≡ counted b k
 counted-sum true k = refl
@@ -175,3 +177,26 @@ module _ (found : List Found) (i : ℕ) (d : Found) (ns : List Text) (us : List 
       let more = map_more shown found i d low in
       let us_now : set us k new ≡ map (uses_among (earlier ++ shown item ∷ [])) ns = cc in
       us_now ∙ ap (λ (all : List Mention). map (uses_among all) ns) (sym more)
+
+-- what the counts over the code's mentions are to the module
+pub AreUses-from_mentions : (m : ModuleTree) (found : List Found) (all : List Text) (uses : List Uses) → map shown found ≡ mentions m →
+    all ≡ firsts (map (λ (x : Found). x.name.now) found) → uses ≡ map (uses_among (map shown found)) all → AreUses m all uses
+AreUses-from_mentions m found all uses same named counted = record {
+  named = named ∙ ap firsts (sym (map-map (λ (x : Mention). x.0) shown found) ∙ ap (map (λ (x : Mention). x.0)) same);
+  counted = counted ∙ ap (λ (ms : List Mention). map (uses_among ms) all) same;
+}
+
+module _ (m : ModuleTree) (all : List Text) (uses : List Uses) (are : AreUses m all uses) where
+  pub same-length : length uses ≡ length all
+  same-length = ap length are.counted ∙ length-map all (uses_among (mentions m))
+
+  pub uses-at : (k : ℕ) (n : Text) (d : Uses) → k < length all → get_or uses k d ≡ uses_among (mentions m) (get_or all k n)
+  uses-at k n d low =
+      ap (λ (us : List Uses). get_or us k d) are.counted ∙ get_or-map (uses_among (mentions m)) all k n d low
+
+  -- the uses of a name stand at its number
+  pub uses-at_number : (n : Text) (d : Uses) → Contains (names m) n → get_or uses (number_among all n) d ≡ uses_among (mentions m) n
+  uses-at_number n d among =
+      let at = text-at all n (subst (λ (ns : List Text). Contains ns n) (sym are.named) among) in
+      let low = slice_get_within all (number_among all n) n at in
+      uses-at (number_among all n) n d low ∙ ap (uses_among (mentions m)) (get_or_from_slice_get all (number_among all n) n n at)

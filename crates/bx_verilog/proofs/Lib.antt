@@ -5,6 +5,7 @@ pub mod DriverSteps
 pub mod Driving
 pub mod ElaboratedNets
 pub mod Firsts
+pub mod Flaws
 pub mod FormulaValues
 pub mod Formulas
 pub mod InnerNets

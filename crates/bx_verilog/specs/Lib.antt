@@ -16,3 +16,4 @@ pub mod Elaboration
 pub mod Shown
 pub mod Lowering
 pub mod Uses
+pub mod Flaws

@@ -1,11 +1,12 @@
 -- How often names stand for what, among the mentions of a module or the first of them.
-use Rattle.std.specs.Prelude.{ℕ, ◌+◌, ◌^◌, ◌<◌, Bool, ◌&&◌, List, if◌then◌else◌}
+use Rattle.std.specs.Prelude.{◌≡◌, ℕ, ◌+◌, ◌^◌, ◌<◌, Bool, ◌&&◌, List, map, if◌then◌else◌}
 use Rattle.std.specs.List.{count_by}
 use Rattle.std.specs.Str.{bytes_eq}
+use Rattle.bx_syntax.specs.Parts.{ModuleTree}
 use Rattle.bx_verilog.specs.declared.role.Role.{Role}
 use Rattle.bx_verilog.specs.declared.uses.Uses.{Uses}
 use Rattle.bx_verilog.specs.Formulas.{Text}
-use Rattle.bx_verilog.specs.Mentions.{Mention, is_header, is_directed, is_input, is_output, is_driven, is_read}
+use Rattle.bx_verilog.specs.Mentions.{Mention, mentions, names, is_header, is_directed, is_input, is_output, is_driven, is_read}
 
 -- how often a name stands for what passes the test among these; `count` is this among all of a module
 abbrev pub count_among : (Role → Bool) → List Mention → Text → ℕ
@@ -40,3 +41,8 @@ noted role u = record {
 abbrev pub HasRoom : Uses → Type 0
 HasRoom u =
     (u.header + 1 < 2 ^ 64) × (u.directed + 1 < 2 ^ 64) × (u.input + 1 < 2 ^ 64) × (u.output + 1 < 2 ^ 64) × (u.driven + 1 < 2 ^ 64) × (u.read + 1 < 2 ^ 64)
+
+-- the names of a module, and the uses of each
+pub record AreUses (m : ModuleTree) (all : List Text) (uses : List Uses) : Type 0 where
+  pub named : all ≡ names m
+  pub counted : uses ≡ map (uses_among (mentions m)) all

@@ -2,11 +2,8 @@
 //! net of a module, or the first thing that is wrong with it.
 #![tactic(auto)]
 
-<<<<<<< HEAD
-mod drivers;
-=======
 mod check;
->>>>>>> 865a7fe0f207e85c8aee6e29f15f3ebca05adb6f
+mod drivers;
 mod elaborate;
 mod expression;
 pub mod fault;

@@ -18,3 +18,4 @@ pub mod MentionSizes
 pub mod Numbering
 pub mod OneMeaning
 pub mod Places
+pub mod PortSteps

@@ -10,6 +10,7 @@ pub mod fault;
 pub mod laws;
 mod mentions;
 mod names;
+mod ports;
 pub mod role;
 mod uses;
 

@@ -2,6 +2,7 @@ pub mod Arity
 pub mod Counting
 pub mod Cyclic
 pub mod Decisions
+pub mod DriverSteps
 pub mod Driving
 pub mod ElaboratedNets
 pub mod Existence
@@ -11,6 +12,7 @@ pub mod FormulaValues
 pub mod Formulas
 pub mod InnerNets
 pub mod Inputs
+pub mod Lowering
 pub mod Meanings
 pub mod Members
 pub mod Membership
@@ -18,3 +20,4 @@ pub mod MentionSizes
 pub mod Numbering
 pub mod OneMeaning
 pub mod Places
+pub mod PortSteps

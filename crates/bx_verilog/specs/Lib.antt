@@ -15,5 +15,6 @@ pub mod Equations
 pub mod Elaboration
 pub mod Examples
 pub mod Shown
+pub mod Lowering
 pub mod Uses
 pub mod Flaws

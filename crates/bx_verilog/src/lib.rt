@@ -3,11 +3,14 @@
 #![tactic(auto)]
 
 mod check;
+mod drivers;
 mod elaborate;
+mod expression;
 pub mod fault;
 pub mod laws;
 mod mentions;
 mod names;
+mod ports;
 pub mod role;
 mod uses;
 

@@ -4,6 +4,7 @@ pub mod Cyclic
 pub mod DriverSteps
 pub mod Driving
 pub mod ElaboratedNets
+pub mod Elaborating
 pub mod Firsts
 pub mod Flaws
 pub mod FormulaValues

@@ -229,10 +229,10 @@ own-counted : (ds : List Drive) → drives_own ds ≡ inner_of ds
 own-counted [] = refl
 own-counted (d ∷ ds) = omega (arith, sum_by-cons (λ (x : Drive). all_own x.arguments) d ds, own-counted ds)
 
-few-nets : (m : ModuleTree) → IsTree m → total m < 4294967296
+pub few-nets : (m : ModuleTree) → IsTree m → total m < 4294967296
 few-nets m tree = omega (arith, length-drivers m, nets-fit m, own-counted (drives m), module_fits 256 m tree.terminals tree.is_module, tree.few)
 
-few-of-ports : (test : Role → Bool) (m : ModuleTree) → IsTree m → length (ports_as test m) < 4294967296
+pub few-of-ports : (test : Role → Bool) (m : ModuleTree) → IsTree m → length (ports_as test m) < 4294967296
 few-of-ports test m tree = omega (arith, few-ports test m, module_fits 256 m tree.terminals tree.is_module, tree.few)
 
 -- Inputs.

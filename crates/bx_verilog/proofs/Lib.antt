@@ -5,6 +5,7 @@ pub mod Decisions
 pub mod DriverSteps
 pub mod Driving
 pub mod ElaboratedNets
+pub mod Elaborating
 pub mod Existence
 pub mod Firsts
 pub mod Flaws

@@ -1,8 +1,11 @@
 pub mod Table
 pub mod Valuations
+pub mod Borrowed
 pub mod Chains
 pub mod Columns
 pub mod Layouts
+pub mod Meanings
+pub mod Modules
 pub mod Pins
 pub mod Ascending
 pub mod BranchingNetworks
@@ -20,8 +23,8 @@ pub mod Flow
 pub mod Endings
 pub mod Serving
 pub mod Clauses
+pub mod Readings
 pub mod Answers
-pub mod Meanings
 pub mod Spellings
 pub mod PlainTexts
 pub mod FormNames

@@ -1,15 +1,14 @@
 -- A report is that of one layout.
 use Rattle.std.proofs.Common.{◌≡◌, ℕ, zero, suc, ◌+◌, ◌*◌, ◌/◌, ◌%◌, ◌<◌, ◌^◌, true, false, List, [], ◌∷◌, ◌++◌, length, map, take, drop, get_or, Option, Some, None, refl, sym, ap, subst, ◌∙◌, append_assoc, arith}
-use Rattle.std.specs.Prelude.{◌≢◌, IsTrue, codes, decimal}
+use Rattle.std.specs.Prelude.{◌≢◌, codes, decimal}
 use Rattle.std.specs.List.{AllByRecursion, range_with_len}
 use Rattle.std.proofs.lemmas.Fmt.{decimal_injective}
 use Rattle.std.proofs.lemmas.List.{map-append, ext_get_or, get_or-take, get_or-drop}
 use Rattle.std.proofs.lemmas.List.FromFn.{get_or-map-range_with_len}
 use Rattle.std.proofs.lemmas.Nat.{div-add-mod', rows}
-use Rattle.std.specs.Char.{is_ascii_alphanumeric}
-use Rattle.bx_syntax.specs.Module.{Text}
-use Rattle.bx_syntax.specs.Chain.{Chain, IsChain, IsName, inversions}
-use Rattle.bx_syntax.proofs.Whole.{ports_named}
+use Rattle.bx_verilog.specs.Formulas.{Text}
+use Rattle.bx_logic.specs.Nets.{Netlist}
+use Rattle.bx_engine.specs.Chains.{IsChain, input_name, output_name}
 use Rattle.bx_engine.specs.Columns.{column, column_pins}
 use Rattle.bx_engine.proofs.Columns.{column-whole}
 use Rattle.bx_engine.specs.declared.grid.Ratio.{Ratio}
@@ -18,7 +17,7 @@ use Rattle.bx_engine.specs.Rows.{row_tiles}
 use Rattle.bx_engine.specs.Grids.{FormGrid, IsFormGrid, Pin, Pins}
 use Rattle.bx_engine.specs.Networks.{Network}
 use Rattle.bx_engine.specs.Texts.{lines_text, pin_line, row_line, tile_name, IsPlain, IsReportable, report_text, refusal_text}
-use Rattle.bx_engine.proofs.Spellings.{Line, line, line_text, first_word, IsPlainLine, each_map, each_append, each_of, map_once, lines_once, part_once}
+use Rattle.bx_engine.proofs.Spellings.{Line, line, line_text, first_word, IsPlainLine, each_map, each_append, map_once, lines_once, part_once}
 use Rattle.bx_engine.proofs.PlainTexts.{decimal-plain, plain-tested}
 use Rattle.bx_engine.proofs.FormNames.{IsFormTile, tile-plain, tile-once}
 
@@ -222,23 +221,13 @@ pub no_report : (fault name : Text) (N : Network) (g : FormGrid) (pins : Pins) �
 unfolding refusal_text report_text
 no_report fault name N g pins e = let first : get_or (codes "refused") 0 0 ≡ get_or (codes "module") 0 0 = ap (λ (text : Text). get_or text 0 0) e in absurd (omega arith)
 
-letter-plain : (byte : ℕ) → IsTrue (is_ascii_alphanumeric byte) → (byte ≢ 32) × (byte ≢ 10)
-letter-plain byte h = (other 32 refl, other 10 refl)
-  where
-    other : (stop : ℕ) → is_ascii_alphanumeric stop ≡ false → byte ≢ stop
-    other stop none e = let lost : false ≡ true = sym none ∙ ap is_ascii_alphanumeric (sym e) ∙ h in cc
-
-name-plain : (name : Text) → IsName name → IsPlain name
-name-plain name is = each_of (λ byte. IsTrue (is_ascii_alphanumeric byte)) (λ byte. (byte ≢ 32) × (byte ≢ 10)) letter-plain name is.each
-
-pub column-reportable : (c : Chain) → IsChain c → IsReportable c.name (column (inversions c.statements)) (column_pins c)
-column-reportable c is =
-    let names = ports_named c is in
-    record {
-      plain = name-plain c.name is.name;
-      grid = column-whole (inversions c.statements);
-      width = omega arith;
-      height = omega (arith, is.few);
-      inputs = ((name-plain c.input is.input, omega arith), tt);
-      outputs = ((name-plain c.output names.of_output, omega arith), tt);
-    }
+pub column-reportable : (net : Netlist) (k : ℕ) → IsChain net k → IsPlain net.name → IsPlain (input_name net) → IsPlain (output_name net)
+    → IsReportable net.name (column k) (column_pins net k)
+column-reportable net k is name input output = record {
+  plain = name;
+  grid = column-whole k;
+  width = omega arith;
+  height = omega (arith, is.few);
+  inputs = ((input, omega arith), tt);
+  outputs = ((output, omega arith), tt);
+}

@@ -1,4 +1,5 @@
 pub mod BranchingNetworks
+pub mod Chains
 pub mod ChainNetworks
 pub mod Columns
 pub mod Counts

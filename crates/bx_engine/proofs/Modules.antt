@@ -1,7 +1,8 @@
 -- A module whose net is a chain gives its output the value of its input, inverted as many times; and
 -- what its layout is worth.
-use Rattle.std.proofs.Common.{◌≡◌, ℕ, ◌+◌, ◌≤◌, Bool, List, [], ◌∷◌, length, length-map, map, refl, sym, ◌∙◌, ap, subst, arith}
+use Rattle.std.proofs.Common.{◌≡◌, ℕ, ◌+◌, ◌≤◌, Bool, List, [], ◌∷◌, length, map, refl, sym, ◌∙◌, ap, subst, arith}
 use Rattle.std.specs.Prelude.{Contains, slice_index, slice_index_or}
+use Rattle.std.proofs.lemmas.List.{length-map}
 use Rattle.bx_lex.specs.Tokens.{TokenList, HasTokens}
 use Rattle.bx_lex.proofs.Cuts.{tokens_spans, tokens_whole}
 use Rattle.bx_logic.specs.Values.{value_of, IsOnlyNetValuation}
@@ -38,7 +39,7 @@ tree-of_text text m short is =
     record { terminals = terminals_of text is.found.tokens; is_module = is.is_module; few = omega arith }
 
 -- the one name and its number, where there is one
-one_named : (f : Text → ℕ) (names : List Text) (name : Text) (n : ℕ) → map (λ x. (x, f x)) names ≡ (name, n) ∷ [] → (names ≡ name ∷ []) × (f name ≡ n)
+one_named : (f : Text → ℕ) (names : List Text) (name : Text) (n : ℕ) → map {B = Text × ℕ} (λ x. (x, f x)) names ≡ (name, n) ∷ [] → (names ≡ name ∷ []) × (f name ≡ n)
 one_named f [] name n e = cc
 one_named f (x ∷ []) name n e =
     let same : x ≡ name = ap (λ (xs : List (Text × ℕ)). slice_index_or (map (λ (y : Text × ℕ). y.0) xs) 0 []) e in

@@ -1,7 +1,6 @@
 -- A text is refused for one fault, but for which fault of reading it is, or laid out in one way, and
 -- never both.
 use Rattle.std.proofs.Common.{◌≡◌, ℕ, ◌<◌, ◌≤◌, List, length, Result, Ok, Err, refl, sym, ◌∙◌, ap, subst, arith, inl, inr}
-use Rattle.bx_logic.specs.Nets.{Netlist}
 use Rattle.bx_lex.specs.declared.token.LexFault.{LexFault}
 use Rattle.bx_lex.specs.Tokens.{TokenList, HasTokens, HasFault}
 use Rattle.bx_lex.proofs.Readings.{one_reading}
@@ -23,13 +22,13 @@ use Rattle.bx_engine.proofs.Chains.{one_number}
 
 module _ (text : Text) where
   one_list : (a b : TokenList) → HasTokens text a → HasTokens text b → a ≡ b
-  one_list a b x y = let same : Ok {E = LexFault} a ≡ Ok b = one_reading text (Ok a) (Ok b) x y in cc
+  one_list a b x y = let same = one_reading text (Ok a) (Ok b) x y in cc
 
   one_lex_fault : (a b : LexFault) → HasFault text a → HasFault text b → a ≡ b
-  one_lex_fault a b x y = let same : Err {T = TokenList} a ≡ Err b = one_reading text (Err a) (Err b) x y in cc
+  one_lex_fault a b x y = let same = one_reading text (Err a) (Err b) x y in cc
 
   no_tokens : (a : TokenList) (b : LexFault) → HasTokens text a → HasFault text b → ⊥
-  no_tokens a b x y = let lost : Ok a ≡ Err b = one_reading text (Ok a) (Err b) x y in cc
+  no_tokens a b x y = let lost = one_reading text (Ok a) (Err b) x y in cc
 
   pub one_text : (m n : ModuleTree) → IsText text m → IsText text n → m ≡ n
   one_text m n a b =
@@ -40,10 +39,10 @@ module _ (text : Text) where
   some_text m a b = b.no_module m (subst (λ (l : TokenList). IsModule 256 m (terminals_of text l.tokens)) (one_list a.found b.found a.tokens b.tokens) a.is_module)
 
 one_fault : (m : ModuleTree) (f g : NetFault) → IsFault m f → IsFault m g → f ≡ g
-one_fault m f g a b = let same : Err {T = Netlist} f ≡ Err g = one-meaning m (Err f) (Err g) a b in cc
+one_fault m f g a b = let same = one-meaning m (Err f) (Err g) a b in cc
 
 no_fault : (m : ModuleTree) (f : NetFault) → IsAccepted m → IsFault m f → ⊥
-no_fault m f a b = let lost : Ok (net_of m) ≡ Err f = one-meaning m (Ok (net_of m)) (Err f) (a, refl) b in cc
+no_fault m f a b = let lost = one-meaning m (Ok (net_of m)) (Err f) (a, refl) b in cc
 
 module _ (text : Text) where
   text_fault : (m n : ModuleTree) (f g : NetFault) → IsText text m → IsText text n → IsFault m f → IsFault n g → f ≡ g

@@ -66,7 +66,7 @@ module _ (drivers : List Driver) where
   abbrev pub Reaches : ℕ → Type 0
   Reaches n = (source : ℕ) × (driver_at drivers source ≡ Input 0) × ((n ≡ source) ⊎ DependsOn drivers n source)
 
-  reads : (n m : ℕ) (d : Driver) → driver_at drivers n ≡ d → arguments_of d ≡ m ∷ [] → Reads drivers n m
+  pub reads : (n m : ℕ) (d : Driver) → driver_at drivers n ≡ d → arguments_of d ≡ m ∷ [] → Reads drivers n m
   reads n m d e args = subst (λ (xs : List ℕ). Contains xs m) (sym (ap arguments_of e ∙ args)) (0, omega arith, refl)
 
   step : (n m : ℕ) → Reads drivers n m → Reaches m → Reaches n

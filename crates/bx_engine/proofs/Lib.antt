@@ -2,6 +2,7 @@ pub mod Table
 pub mod Valuations
 pub mod Borrowed
 pub mod Chains
+pub mod Walks
 pub mod Columns
 pub mod Layouts
 pub mod Meanings

@@ -9,6 +9,7 @@ pub mod Networks
 pub mod Orders
 pub mod Statuses
 pub mod Texts
+pub mod Walks
 pub mod Words
 pub mod Says
 pub mod Tiles

@@ -22,6 +22,7 @@ pub mod FormTable
 pub mod Tiles
 pub mod Flow
 pub mod Endings
+pub mod Designs
 pub mod Serving
 pub mod Clauses
 pub mod Readings

@@ -15,7 +15,6 @@ use Rattle.bx_engine.specs.Statuses.{IsSettled}
 use Rattle.bx_engine.specs.ChainNetworks.{chain_network}
 use Rattle.bx_engine.specs.Columns.{column}
 use Rattle.bx_engine.specs.Reports.{report_of}
-use Rattle.bx_engine.specs.Texts.{refusal_text, input_fault_text}
 use Rattle.bx_engine.specs.Runs.{net_word, net_text, IsRefused, AreAlike, IsLaidOut, IsLayout, HasText, IsThere, IsAnswer, no_command, refused as refused_for, laid_out}
 use Rattle.bx_engine.specs.Serves.{Outcome, answered, unsaid, unread, no_memory}
 use Rattle.bx_engine.proofs.Answers.{no_text, of_this}
@@ -43,17 +42,6 @@ module _ {A : Type 0} (words : List (String A)) (told : Option Files) (s0 s1 : O
   refused _ (unsaid _ _ a front rose) settled text t fault h = absurd settled
   refused _ (unread net named same rose) settled text t fault h = absurd settled
   refused _ (no_memory same) settled text t fault h = absurd settled
-
-  pub refused_said : (r : Status) → Outcome words told s0 s1 before now r → (fault : InputFault) → r ≡ Refused fault → Adds s0 s1 (refusal_text (input_fault_text fault))
-  refused_said _ (answered _ _ (no_command none) adds) fault e = cc
-  refused_said _ (answered _ _ (refused_for net u f named there has is) adds) fault e =
-      let given : Refused f ≡ Refused fault = e in
-      let same : f ≡ fault = cc in
-      subst (λ (x : InputFault). Adds s0 s1 (refusal_text (input_fault_text x))) same adds
-  refused_said _ (answered _ _ (laid_out net u m k named there has is) adds) fault e = cc
-  refused_said _ (unsaid _ _ a front rose) fault e = cc
-  refused_said _ (unread net named same rose) fault e = cc
-  refused_said _ (no_memory same) fault e = cc
 
   pub found_only : (r : Status) → Outcome words told s0 s1 before now r → (ratio : Ratio) → r ≡ Found ratio → (text : Text) → net_text words told ≡ Some text → (m : ModuleTree) × (k : ℕ) × IsLaidOut text m k × (ratio ≡ (column k).ratio)
   found_only _ (answered _ _ (no_command none) adds) ratio e text t = cc

@@ -25,15 +25,6 @@ there_is net text (Some files) file = some_is file where
   some_is : {o : Option Text} {t : Text} → o ≡ Some t → IsSome o
   some_is e = subst (λ (x : Option Text). IsSome x) (sym e) refl
 
--- a file of which more is loaded than is read is too long
-pub too_long : (told : Option Files) (net front : Text) → BeginsFile told net front → length front ≡ 1048577 → (text : Text) × IsFile told net text × (1048576 < length text)
-too_long None net front begins e = (front, tt, omega arith)
-too_long (Some files) net front (rest, is) e = (front ++ rest, is, omega (arith, length-append front rest))
-
--- a net that has a layout is a chain
-pub chain_of_layout : (text : Text) (net : Netlist) (k : ℕ) → HasLayout text net k → IsChain net k
-chain_of_layout text net k h = subst (λ (n : Netlist). IsChain n k) (sym h.same) h.laid_out.chain
-
 module _ {A : Type 0} (words : List (String A)) (net : Text) (named : net_word words ≡ Some net) (told : Option Files) where
   -- what the desk tells to be the file that the words name
   told_text : net_text words told ≡ option_and_then (λ files. files net) told

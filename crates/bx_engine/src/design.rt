@@ -93,11 +93,7 @@ impl From<NoMemory> for NoLayout {
 }
 
 /// Loads the file, reads its module and lays it out. It takes all the memory that a run takes.
-pub(crate) fn lay_out<D: Desk>(
-    alloc: Global,
-    name: &str,
-    desk: &mut D,
-) -> Result<Layout, NoLayout>
+pub(crate) fn lay_out<D: Desk>(alloc: Global, name: &str, desk: &mut D) -> Result<Layout, NoLayout>
     ensures layout { IfOk result (λ layout. ReadsLayout (D.files desk.old) name.now layout.net layout.inversions) }
     ensures grid { IfOk result (λ layout. layout.grid ≡ column_of layout.inversions) }
     ensures err { IfErr result (FileEnds (D.files desk.old) name.now (D.faults desk.old) (D.faults desk.new)) }

@@ -118,7 +118,13 @@ fn report<D: Desk>(layout: &Layout, desk: &mut D) -> Status
     ensures { EndsSaying D.files D.said D.faults desk.old desk.new result (Status.Found layout.now.grid.ratio) (report_of layout.now.net layout.now.inversions) }
 {
     let mut piece = Piece::to_say();
-    match put_report(&layout.net, layout.inversions, &layout.grid, &mut piece, desk) {
+    match put_report(
+        &layout.net,
+        layout.inversions,
+        &layout.grid,
+        &mut piece,
+        desk,
+    ) {
         Ok(()) => end(piece, desk, Status::Found(layout.grid.ratio())),
         Err(Failed) => Status::WriteFault(Which::Output),
     }

@@ -80,7 +80,12 @@ fn put_lex_place<D: Desk>(
     ensures { Says D.files D.said D.faults desk.old desk.new result (pending piece.old) (pending piece.new)
         (refusal_text (spaced (codes "lex") (what.now ∷ decimal place ∷ []))) }
 {
-    put_refusal(b"lex", &[Word::Text(what), Word::Number(place)], piece, desk)
+    put_refusal(
+        b"lex",
+        &[Word::Text(what), Word::Number(place)],
+        piece,
+        desk,
+    )
 }
 
 // Puts out the line of the refusal of tokens that are no module.

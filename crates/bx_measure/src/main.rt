@@ -5,7 +5,9 @@
 ghost use Rattle.bx_lex.specs.Tokens.{HasTokens};
 
 use bx_lex::{Tokens, read_tokens};
-use bx_syntax::read_module;
+use bx_logic::Net;
+use bx_verilog::{Module, read_module, to_net};
+use std::alloc::AllocError;
 use std::process::ExitCode;
 use std::{env, fs, io};
 
@@ -19,6 +21,8 @@ enum Stage {
     Tokens,
     /// The tree of its module.
     Tree,
+    /// The net of its module, and the values of the outputs.
+    Net,
 }
 
 impl Stage {
@@ -26,6 +30,7 @@ impl Stage {
         match word {
             "tokens" => Some(Stage::Tokens),
             "tree" => Some(Stage::Tree),
+            "net" => Some(Stage::Net),
             _ => None,
         }
     }
@@ -38,25 +43,52 @@ fn say_tokens(rt: &HostRuntime, tokens: &Tokens) -> io::Result<bool> {
     Ok(true)
 }
 
-/// Says how many items the module has that these tokens spell.
-fn say_tree(rt: &HostRuntime, text: &[u8], tokens: &Tokens) -> io::Result<bool>
+/// The module that these tokens spell. Where there is none, that is said.
+fn module_of(rt: &HostRuntime, text: &[u8], tokens: &Tokens) -> io::Result<Option<Module>>
     requires { HasTokens text.now tokens.now }
 {
     if text.len() > LONGEST {
         println!(rt; "too long")?;
-        return Ok(false);
+        return Ok(None);
     }
     match read_module(rt.alloc(), text, tokens) {
-        Ok(module) => {
-            let count = module.items().len();
-            println!(rt; "{count} items")?;
-            Ok(true)
-        }
+        Ok(module) => Ok(Some(module)),
         Err(fault) => {
             println!(rt; "{fault:?}")?;
-            Ok(false)
+            Ok(None)
         }
     }
+}
+
+/// Says how many items a module has.
+fn say_tree(rt: &HostRuntime, module: &Module) -> io::Result<bool> {
+    let count = module.items().len();
+    println!(rt; "{count} items")?;
+    Ok(true)
+}
+
+/// The values of the outputs where each input is 1.
+fn values(rt: &HostRuntime, net: &Net) -> Result<Vec<bool>, AllocError> {
+    let bits = vec![in rt.alloc(); true; net.input_count() as usize]?;
+    let mut values = Vec::new(rt.alloc());
+    net.eval(rt.alloc(), &bits, &mut values)
+        .map_err(|_| AllocError)?;
+    Ok(values)
+}
+
+/// Says how many nets a module has, and how many outputs have a value.
+fn say_net(rt: &HostRuntime, module: &Module) -> io::Result<bool> {
+    let net = match to_net(rt.alloc(), module) {
+        Ok(net) => net,
+        Err(fault) => {
+            println!(rt; "{fault:?}")?;
+            return Ok(false);
+        }
+    };
+    let nets = net.len();
+    let outputs = values(rt, &net)?.len();
+    println!(rt; "{nets} nets, {outputs} outputs")?;
+    Ok(true)
 }
 
 /// Runs the stage. Answers whether it ended without a fault.
@@ -68,9 +100,15 @@ fn run(rt: &HostRuntime, stage: Stage, text: &[u8]) -> io::Result<bool> {
             return Ok(false);
         }
     };
+    if let Stage::Tokens = stage {
+        return say_tokens(rt, &tokens);
+    }
+    let Some(module) = module_of(rt, text, &tokens)? else {
+        return Ok(false);
+    };
     match stage {
-        Stage::Tokens => say_tokens(rt, &tokens),
-        Stage::Tree => say_tree(rt, text, &tokens),
+        Stage::Net => say_net(rt, &module),
+        Stage::Tree | Stage::Tokens => say_tree(rt, &module),
     }
 }
 

@@ -1,5 +1,5 @@
 //! Laws of the definitions that the contracts cite. Nothing here runs.
-ghost use Rattle.std.specs.Prelude.{◌≡◌, ◌≤◌, ℕ, List, codes, length};
+ghost use Rattle.std.specs.Prelude.{◌≡◌, ◌<◌, ◌≤◌, ◌^◌, ℕ, List, codes, length};
 ghost use Rattle.bx_logic.specs.declared.op.Op.TheVariants.{Buf, Not, And, Or, Nand, Nor, Xor, Xnor};
 ghost use Rattle.bx_syntax.specs.declared.reserved.TheConstants.{RESERVED};
 ghost use Rattle.bx_syntax.specs.declared.terminal.Mark.TheVariants.{Module, EndModule, Input, Output, Wire, Assign};
@@ -9,6 +9,7 @@ ghost use Rattle.bx_syntax.specs.Terminals.{word_terminal};
 ghost use Rattle.bx_syntax.specs.Parts.{ModuleTree};
 ghost use Rattle.bx_syntax.specs.Sizes.{module_size};
 ghost use Rattle.bx_syntax.specs.Grammar.{IsModule};
+ghost use Rattle.bx_syntax.specs.Texts.{IsTree};
 
 /// A list of terminals has at most one tree, however deep it may nest.
 pub fn one_tree()
@@ -28,4 +29,9 @@ pub fn what_words_are()
 /// A module has no more names, operators and bits than its text has terminals.
 pub fn a_module_is_no_larger_than_its_text()
     ensures { (limit : ℕ) (m : ModuleTree) (ts : List Terminal) → IsModule limit m ts → module_size m ≤ length ts }
+{}
+
+/// A module that is the tree of some text has fewer than 2 ^ 32 names, operators and bits.
+pub fn a_module_is_small()
+    ensures { (m : ModuleTree) → IsTree m → module_size m < 2 ^ 32 }
 {}

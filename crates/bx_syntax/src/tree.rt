@@ -1,10 +1,10 @@
 //! The tree of a module: what the grammar gives for its text. Operators of one level of the grammar
 //! are kept as a list, so that how deep a tree is, is bounded by how deep its `~` and `(` nest. That a
-//! module has fewer than 2 ^ 32 names, operators and bits is kept in its type. Which text has which
-//! tree is left to the readers.
-ghost use Rattle.std.specs.Prelude.{◌≡◌, ◌<◌, ◌^◌, map};
+//! module is the tree of some text, and so has fewer than 2 ^ 32 names, operators and bits, is kept in
+//! its type. Which text has which tree is left to the readers.
+ghost use Rattle.std.specs.Prelude.{◌≡◌, map};
 ghost use Rattle.bx_syntax.specs.Parts.{module_tree, parts};
-ghost use Rattle.bx_syntax.specs.Sizes.{module_size};
+ghost use Rattle.bx_syntax.specs.Texts.{IsTree};
 
 use bx_logic::{Name, Op};
 use std::marker::Model;
@@ -80,10 +80,9 @@ pub struct Module {
 }
 
 impl Model for Module {
-    ghost use Rattle.std.specs.Prelude.{◌<◌, ◌^◌};
     ghost use Rattle.bx_syntax.specs.Parts.{ModuleTree, module_tree};
     ghost use Rattle.bx_syntax.specs.Codes.{module_code};
-    ghost use Rattle.bx_syntax.specs.Sizes.{module_size};
+    ghost use Rattle.bx_syntax.specs.Texts.{IsTree};
 
     ghost Value = { ModuleTree };
 
@@ -91,13 +90,13 @@ impl Model for Module {
 
     ghost view = { λ m. module_tree m.name m.ports.items m.items.items };
 
-    ghost invariant = { λ m. module_size (module_tree m.name m.ports.items m.items.items) < 2 ^ 32 };
+    ghost invariant = { λ m. IsTree (module_tree m.name m.ports.items m.items.items) };
 }
 
 impl Module {
     /// The module of these parts. Takes no memory.
     pub(crate) fn new(name: Name, ports: Vec<Port>, items: Vec<Vec<Part>>) -> Self
-        requires { module_size (module_tree name ports.items items.items) < 2 ^ 32 }
+        requires { IsTree (module_tree name ports.items items.items) }
         ensures { result ≡ module_tree name ports.items items.items }
     {
         Module { name, ports, items }
@@ -106,7 +105,7 @@ impl Module {
     /// The module's name.
     pub fn name(&self) -> &Name
         ensures name { result.now ≡ self.now.name }
-        ensures bounded { module_size self.now < 2 ^ 32 }
+        ensures tree { IsTree self.now }
     {
         &self.name
     }
@@ -114,7 +113,7 @@ impl Module {
     /// The ports, in the order of the header.
     pub fn ports(&self) -> &[Port]
         ensures ports { result.now ≡ self.now.ports }
-        ensures bounded { module_size self.now < 2 ^ 32 }
+        ensures tree { IsTree self.now }
     {
         &self.ports
     }
@@ -122,7 +121,7 @@ impl Module {
     /// The items, in the order of the text.
     pub fn items(&self) -> &[Vec<Part>]
         ensures items { map parts result.now ≡ self.now.items }
-        ensures bounded { module_size self.now < 2 ^ 32 }
+        ensures tree { IsTree self.now }
     {
         &self.items
     }

@@ -13,4 +13,7 @@ pub mod Mentions
 pub mod Faults
 pub mod Equations
 pub mod Elaboration
+pub mod Examples
 pub mod Shown
+pub mod Uses
+pub mod Flaws

@@ -1,5 +1,5 @@
 -- Where names stand in a module, and what they stand there for.
-use Rattle.std.specs.Prelude.{◌==◌, ℕ, ◌<◌, Bool, true, false, not, ◌&&◌, nat_lt, List, [], ◌∷◌, ◌++◌, map, flat_map, filter, Option, Some, None}
+use Rattle.std.specs.Prelude.{ℕ, Bool, true, false, not, ◌&&◌, nat_lt, List, [], ◌∷◌, ◌++◌, map, flat_map, filter, Option, Some, None}
 use Rattle.std.specs.List.{count_by, position_or_len}
 use Rattle.std.specs.Str.{bytes_eq}
 use Rattle.bx_syntax.specs.declared.tree.Direction.{Direction}

@@ -1,5 +1,5 @@
 -- What the code's names and mentions are, without where they lie in memory.
-use Rattle.std.specs.Prelude.{ℕ, List, map}
+use Rattle.std.specs.Prelude.{ℕ, List}
 use Rattle.std.specs.List.{position_or_len}
 use Rattle.std.specs.Str.{bytes_eq}
 use Rattle.bx_verilog.specs.declared.mentions.Mention.{Mention as Found}

@@ -2,10 +2,14 @@
 //! net of a module, or the first thing that is wrong with it.
 #![tactic(auto)]
 
+mod check;
 mod elaborate;
 pub mod fault;
+pub mod laws;
 mod mentions;
+mod names;
 pub mod role;
+mod uses;
 
 pub use bx_syntax::{Construct, Module, ReadFault, read_module};
 pub use elaborate::to_net;

@@ -1,0 +1,363 @@
+-- The lists that a module gives make a net, where its names are driven once and none depends on itself.
+use Rattle.std.proofs.Common.{◌≡◌, ◌≢◌, ℕ, ◌+◌, ◌-◌, ◌<◌, ◌≤◌, ◌&&◌, Bool, true, false, cond, List, [], ◌∷◌, ◌++◌, map, flat_map, length, length-append, get_or, Contains, Some, None, refl, sym, ap, ◌∙◌, subst, arith, inl, inr}
+use Rattle.std.specs.Prelude.{nat_lt}
+use Rattle.std.specs.List.{All, AllByRecursion, count_by, position, position_or_len}
+use Rattle.std.specs.Str.{bytes_eq}
+use Rattle.std.proofs.Math.Bool.{and-true}
+use Rattle.std.proofs.lemmas.Bool.{cases_lt, cond-true, lt-ltb}
+use Rattle.std.proofs.lemmas.Bool.Decides.{nat_tests}
+use Rattle.std.proofs.lemmas.List.{length-map, get_or_default, get_or_past, get_or-append-add}
+use Rattle.std.proofs.lemmas.Option.{slice_get-get_or}
+use Rattle.std.proofs.lemmas.List.Elements.{All-append, All-map, All-weaker, All-contains, All-from_recursion, All-get_or, Contains-get_or}
+use Rattle.std.proofs.lemmas.List.Quantifiers.{position-Some}
+use Rattle.std.proofs.lemmas.List.Sums.{sum_by-cons, length-filter, count_by-le-length}
+use Rattle.bx_logic.specs.Lists.{AreDistinct}
+use Rattle.bx_logic.specs.declared.op.Op.TheVariants.{Not}
+use Rattle.bx_logic.specs.declared.driver.Driver.{Driver}
+use Rattle.bx_logic.specs.declared.driver.Driver.TheVariants.{Input, Constant, Gate}
+use Rattle.bx_logic.specs.Nets.{arguments_of, driver_at, HasArity, IsDriver, IsAcyclic, IsNet, output_nets}
+use Rattle.bx_logic.specs.Cycles.{ReadsNetsOnly}
+use Rattle.bx_syntax.specs.declared.tree.Direction.TheVariants.{Input as InputDirection}
+use Rattle.bx_syntax.specs.declared.tree.Operator.{Operator}
+use Rattle.bx_syntax.specs.declared.tree.Operator.TheVariants.{And, Or, Xor, Xnor}
+use Rattle.bx_syntax.specs.declared.tree.Port.{Port}
+use Rattle.bx_syntax.specs.Parts.{ModuleTree}
+use Rattle.bx_syntax.specs.Texts.{IsTree}
+use Rattle.bx_syntax.proofs.Sizes.{module_fits}
+use Rattle.bx_verilog.specs.declared.role.Role.{Role}
+use Rattle.bx_verilog.specs.declared.role.Role.TheVariants.{Header, Directed, Read}
+use Rattle.bx_verilog.specs.Formulas.{Text, Formula, named, constant, negation, pair, operation, names_of}
+use Rattle.bx_verilog.specs.Drives.{Drive, parts_of, drives}
+use Rattle.bx_verilog.specs.Mentions.{Mention, direction_mentions, port_mentions, part_mentions, mentions, names, number, count, is_header, is_input, is_output, is_driven, ports_as, inputs, outputs}
+use Rattle.bx_verilog.specs.Faults.{IsFree, IsDriven, HasTwoDrivers, HasPorts, twice_in_header}
+use Rattle.bx_verilog.specs.Elaboration.{own, all_own, net_number, own_drivers, net_numbers, all_own_drivers, inner_drivers, name_count, driver_of, chosen, net_of}
+use Rattle.bx_verilog.proofs.Arity.{drive-arity}
+use Rattle.bx_verilog.proofs.Driving.{IsGateOf, driver-cases, no-gate-of-input, read-mention}
+use Rattle.bx_verilog.proofs.Firsts.{same_texts, same_bytes, place-of}
+use Rattle.bx_verilog.proofs.InnerNets.{drives_own, drives_own-append, length-drivers, driver-at-name, named-driver}
+use Rattle.bx_verilog.proofs.Members.{AreDistinct-filter, count_by-some}
+use Rattle.bx_verilog.proofs.Membership.{Member, Contains-from_member, Member-from_contains, Member-append_left, Member-append_right, Member-filter_cases, AllByRecursion-from_member, counted, counted-append}
+use Rattle.bx_verilog.proofs.MentionSizes.{inner_of, nets-fit}
+use Rattle.bx_verilog.proofs.Numbering.{number-within, number-of, mentioned, count-mention}
+
+-- Numbers within the net.
+
+module _ (numbered : Text → ℕ) (nets : ℕ) where
+  -- the names of a formula have numbers of nets
+  abbrev AreNumbered : Formula → Type 0
+  AreNumbered x = (n : Text) → Member n (names_of x) → numbered n < nets
+
+  abbrev AllNumbered : List Formula → Type 0
+  AllNumbered xs = (n : Text) → Member n (flat_map names_of xs) → numbered n < nets
+
+  net-within : (first : ℕ) (x : Formula) → AreNumbered x → first + own x ≤ nets → net_number numbered first x < nets
+  net-within first (named n) are l = are n (inl refl)
+  net-within first (constant b) are l = omega arith
+  net-within first (negation x) are l = omega arith
+  net-within first (pair o x y) are l = omega arith
+
+  nets-within : (first : ℕ) (xs : List Formula) → AllNumbered xs → first + all_own xs ≤ nets → AllByRecursion (λ k. k < nets) (net_numbers numbered first xs)
+  nets-within first [] are l = tt
+  nets-within first (x ∷ xs) are l = (
+    net-within first x (λ n h. are n (Member-append_left n (names_of x) (flat_map names_of xs) h)) (omega arith),
+    nets-within (first + own x) xs (λ n h. are n (Member-append_right n (names_of x) (flat_map names_of xs) h)) (omega arith),
+  )
+
+  operation-arity : (o : Operator) (ks : List ℕ) → HasArity (operation o) ks
+  operation-arity And ks = tt
+  operation-arity Or ks = tt
+  operation-arity Xor ks = tt
+  operation-arity Xnor ks = tt
+
+  one-driver : (d : Driver) → IsDriver 0 nets d → All (IsDriver 0 nets) (d ∷ [])
+  one-driver d h = All-from_recursion (IsDriver 0 nets) (d ∷ []) (h, tt)
+
+  all-within : (ks : List ℕ) → AllByRecursion (λ k. k < nets) ks → All (λ k. k < nets) ks
+  all-within ks h = All-from_recursion (λ k. k < nets) ks h
+
+  -- what drives the own nets of a formula drives no input
+  own-are : (first : ℕ) (x : Formula) → AreNumbered x → first + own x ≤ nets → All (IsDriver 0 nets) (own_drivers numbered first x)
+  own-are first (named n) are l = All-from_recursion (IsDriver 0 nets) [] tt
+  own-are first (constant b) are l = one-driver (Constant b) tt
+  own-are first (negation x) are l =
+      All-append (IsDriver 0 nets) (own_drivers numbered first x) (Gate Not (net_number numbered first x ∷ []) ∷ [])
+      (own-are first x are (omega arith))
+      (one-driver (Gate Not (net_number numbered first x ∷ [])) (refl, all-within (net_number numbered first x ∷ []) (net-within first x are (omega arith), tt)))
+  own-are first (pair o x y) are l =
+      let left : AreNumbered x = λ n h. are n (Member-append_left n (names_of x) (names_of y) h) in
+      let right : AreNumbered y = λ n h. are n (Member-append_right n (names_of x) (names_of y) h) in
+      let ks = net_number numbered first x ∷ net_number numbered (first + own x) y ∷ [] in
+      All-append (IsDriver 0 nets) (own_drivers numbered first x ++ own_drivers numbered (first + own x) y) (Gate (operation o) ks ∷ [])
+      (All-append (IsDriver 0 nets) (own_drivers numbered first x) (own_drivers numbered (first + own x) y) (own-are first x left (omega arith)) (own-are (first + own x) y right (omega arith)))
+      (one-driver (Gate (operation o) ks) (
+        operation-arity o ks,
+        all-within ks (net-within first x left (omega arith), (net-within (first + own x) y right (omega arith), tt)),
+      ))
+
+  all-own-are : (first : ℕ) (xs : List Formula) → AllNumbered xs → first + all_own xs ≤ nets → All (IsDriver 0 nets) (all_own_drivers numbered first xs)
+  all-own-are first [] are l = All-from_recursion (IsDriver 0 nets) [] tt
+  all-own-are first (x ∷ xs) are l =
+      All-append (IsDriver 0 nets) (own_drivers numbered first x) (all_own_drivers numbered (first + own x) xs)
+      (own-are first x (λ n h. are n (Member-append_left n (names_of x) (flat_map names_of xs) h)) (omega arith))
+      (all-own-are (first + own x) xs (λ n h. are n (Member-append_right n (names_of x) (flat_map names_of xs) h)) (omega arith))
+
+  inner-are : (first : ℕ) (ds : List Drive) → ((d : Drive) → Member d ds → AllNumbered d.arguments) → first + drives_own ds ≤ nets → All (IsDriver 0 nets) (inner_drivers numbered first ds)
+  inner-are first [] are l = All-from_recursion (IsDriver 0 nets) [] tt
+  inner-are first (d ∷ ds) are l =
+      All-append (IsDriver 0 nets) (all_own_drivers numbered first d.arguments) (inner_drivers numbered (first + all_own d.arguments) ds)
+      (all-own-are first d.arguments (are d (inl refl)) (omega arith))
+      (inner-are (first + all_own d.arguments) ds (λ x h. are x (inr h)) (omega arith))
+
+-- the number of nets
+abbrev total : ModuleTree → ℕ
+total m = length (net_of m).drivers
+
+drive-numbered : (m : ModuleTree) (d : Drive) → Member d (drives m) → AllNumbered (number m) (total m) d.arguments
+drive-numbered m d h n k =
+    let read = read-mention m d n (Contains-from_member d (drives m) h) (Contains-from_member n (flat_map names_of d.arguments) k) in
+    let within = number-within m n (mentioned m n Read read) in
+    omega (arith, within, length-drivers m)
+
+inner-drivers-are : (m : ModuleTree) → All (IsDriver 0 (total m)) (inner_drivers (number m) (name_count m) (drives m))
+inner-drivers-are m = inner-are (number m) (total m) (name_count m) (drives m) (drive-numbered m) (omega (arith, length-drivers m))
+
+-- the drive that a name's gate is of
+gate-among : (m : ModuleTree) (n : Text) (g : Driver) (is : IsGateOf (number m) (name_count m) (drives m) n g) → Member is.drive (drives m)
+gate-among m n g is =
+    subst (λ ds. Member is.drive ds) (sym is.splits) (Member-append_right is.drive is.before (is.drive ∷ is.after) (inl refl))
+
+gate-within : (m : ModuleTree) (n : Text) (g : Driver) (is : IsGateOf (number m) (name_count m) (drives m) n g) →
+    All (λ k. k < total m) (net_numbers (number m) (name_count m + drives_own is.before) is.drive.arguments)
+gate-within m n g is =
+    let first = name_count m + drives_own is.before in
+    let parts = ap drives_own is.splits ∙ drives_own-append is.before (is.drive ∷ is.after) in
+    all-within (number m) (total m) (net_numbers (number m) first is.drive.arguments)
+    (nets-within (number m) (total m) first is.drive.arguments (drive-numbered m is.drive (gate-among m n g is)) (omega (arith, parts, length-drivers m)))
+
+reads-within : (inputs nets : ℕ) (d : Driver) → IsDriver inputs nets d → All (λ k. k < nets) (arguments_of d)
+reads-within inputs nets (Input i) h = All-from_recursion (λ k. k < nets) [] tt
+reads-within inputs nets (Constant b) h = All-from_recursion (λ k. k < nets) [] tt
+reads-within inputs nets (Gate op ks) h = h.1
+
+more-inputs : (inputs nets : ℕ) (d : Driver) → IsDriver 0 nets d → IsDriver inputs nets d
+more-inputs inputs nets (Input i) h = absurd (omega arith)
+more-inputs inputs nets (Constant b) h = tt
+more-inputs inputs nets (Gate op ks) h = h
+
+-- what drives a name reads nets of the list
+name-reads : (m : ModuleTree) (n : Text) → All (λ k. k < total m) (arguments_of (driver_of m n))
+name-reads m n =
+    let Within = λ (d : Driver). All (λ k. k < total m) (arguments_of d) in
+    elim (driver-cases m n) [
+      | inl is ↦ subst Within (sym is.gate) (gate-within m n (driver_of m n) is)
+      | inr (inl (i, place, e)) ↦ subst Within (sym e) (All-from_recursion (λ k. k < total m) [] tt)
+      | inr (inr e) ↦ subst Within (sym e) (All-from_recursion (λ k. k < total m) [] tt)
+    ]
+
+all-names : (P : Driver → Type 0) (m : ModuleTree) → ((n : Text) → P (driver_of m n)) → All P (map (driver_of m) (names m))
+all-names P m h = All-map P (driver_of m) (names m) (All-from_recursion (λ n. P (driver_of m n)) (names m) (AllByRecursion-from_member (λ n. P (driver_of m n)) (names m) (λ n i. h n)))
+
+all-read-nets : (m : ModuleTree) → All (λ (d : Driver). All (λ k. k < total m) (arguments_of d)) (net_of m).drivers
+all-read-nets m =
+    let Within = λ (d : Driver). All (λ k. k < total m) (arguments_of d) in
+    let inner = inner_drivers (number m) (name_count m) (drives m) in
+    All-append Within (map (driver_of m) (names m)) inner (all-names Within m (name-reads m))
+    (All-weaker (IsDriver 0 (total m)) Within (reads-within 0 (total m)) inner (inner-drivers-are m))
+
+-- the nets of a module read its nets alone
+pub reads-nets-only : (m : ModuleTree) → ReadsNetsOnly (net_of m).drivers
+reads-nets-only m n k reads =
+    let drivers = (net_of m).drivers in
+    let Within = λ (d : Driver). All (λ k. k < total m) (arguments_of d) in
+    elim (cases_lt n (total m)) [
+      | inl l ↦ All-contains (λ k. k < total m) (arguments_of (driver_at drivers n)) k (All-get_or Within drivers n (Constant false) l (all-read-nets m)) reads
+      | inr past ↦
+          let none : driver_at drivers n ≡ Constant false = get_or_past drivers n (Constant false) past in
+          let empty = subst (λ (d : Driver). Contains (arguments_of d) k) none reads in
+          absurd (Member-from_contains k [] empty)
+    ]
+
+-- what drives a name is a driver
+name-driver : (m : ModuleTree) → IsTree m → (n : Text) → IsDriver (length (inputs m)) (total m) (driver_of m n)
+name-driver m tree n =
+    let Is = IsDriver (length (inputs m)) (total m) in
+    elim (driver-cases m n) [
+      | inl is ↦
+          let arity = drive-arity m tree is.drive (Contains-from_member is.drive (drives m) (gate-among m n (driver_of m n) is)) in
+          subst Is (sym is.gate) (arity.1 (number m) (name_count m + drives_own is.before), gate-within m n (driver_of m n) is)
+      | inr (inl (i, place, e)) ↦ subst Is (sym e) (position-Some (bytes_eq n) (inputs m) i [] place).0
+      | inr (inr e) ↦ subst Is (sym e) tt
+    ]
+
+drivers-are : (m : ModuleTree) → IsTree m → All (IsDriver (length (inputs m)) (total m)) (net_of m).drivers
+drivers-are m tree =
+    let Is = IsDriver (length (inputs m)) (total m) in
+    let inner = inner_drivers (number m) (name_count m) (drives m) in
+    All-append Is (map (driver_of m) (names m)) inner (all-names Is m (name-driver m tree))
+    (All-weaker (IsDriver 0 (total m)) Is (more-inputs (length (inputs m)) (total m)) inner (inner-drivers-are m))
+
+-- Ports.
+
+abbrev port_names : ModuleTree → List Text
+port_names m = map (λ (p : Port). p.name) m.ports
+
+few-ports : (test : Role → Bool) (m : ModuleTree) → length (ports_as test m) ≤ length m.ports
+few-ports test m =
+    let p = λ (n : Text). nat_lt 0 (count test m n) in
+    omega (arith, length-filter p (port_names m), count_by-le-length p (port_names m), length-map m.ports (λ (x : Port). x.name))
+
+-- a port that is declared so is a name, and counted
+pub port-passes : (test : Role → Bool) (m : ModuleTree) (n : Text) → Member n (ports_as test m) → 1 ≤ count test m n
+port-passes test m n h =
+    let passes = (Member-filter_cases (λ (k : Text). nat_lt 0 (count test m k)) n (port_names m) h).1 in
+    grind (arith, nat_tests)
+
+pub port-named : (test : Role → Bool) (m : ModuleTree) (n : Text) → Member n (ports_as test m) → Contains (names m) n
+port-named test m n h =
+    let (r, c, t) = count-mention test m n (port-passes test m n h) in
+    mentioned m n r c
+
+-- the nets of the outputs
+outputs-within : (m : ModuleTree) → All (λ k. k < total m) (output_nets (net_of m))
+outputs-within m =
+    All-map (λ k. k < total m) (λ (x : Text × ℕ). x.1) (map (λ n. (n, number m n)) (outputs m))
+    (All-map (λ (x : Text × ℕ). x.1 < total m) (λ n. (n, number m n)) (outputs m)
+    (All-from_recursion (λ n. number m n < total m) (outputs m) (AllByRecursion-from_member (λ n. number m n < total m) (outputs m)
+    (λ n h. let within = number-within m n (port-named is_output m n h) in omega (arith, within, length-drivers m)))))
+
+own-counted : (ds : List Drive) → drives_own ds ≡ inner_of ds
+own-counted [] = refl
+own-counted (d ∷ ds) = omega (arith, sum_by-cons (λ (x : Drive). all_own x.arguments) d ds, own-counted ds)
+
+few-nets : (m : ModuleTree) → IsTree m → total m < 4294967296
+few-nets m tree = omega (arith, length-drivers m, nets-fit m, own-counted (drives m), module_fits 256 m tree.terminals tree.is_module, tree.few)
+
+few-of-ports : (test : Role → Bool) (m : ModuleTree) → IsTree m → length (ports_as test m) < 4294967296
+few-of-ports test m tree = omega (arith, few-ports test m, module_fits 256 m tree.terminals tree.is_module, tree.few)
+
+-- Inputs.
+
+-- the mentions by which a name stands in the header
+abbrev in_header : Text → Mention → Bool
+in_header n x = bytes_eq n x.0 && is_header x.1
+
+ports-counted : (n : Text) (ps : List Port) → count_by (bytes_eq n) (map (λ (p : Port). p.name) ps) ≤ count_by (in_header n) (flat_map port_mentions ps)
+ports-counted n [] = omega arith
+ports-counted n (p ∷ ps) =
+    let test : ◌≡◌ {A = ℕ} (cond (bytes_eq n p.name && true) 1 0) (cond (bytes_eq n p.name) 1 0) = ap (λ b. cond b 1 0) (and-true (bytes_eq n p.name)) in
+    omega (
+      arith,
+      test,
+      counted (bytes_eq n) p.name (map (λ (x : Port). x.name) ps),
+      counted-append (in_header n) (port_mentions p) (flat_map port_mentions ps),
+      counted (in_header n) (p.name, Header) (direction_mentions p.name p.direction),
+      ports-counted n ps,
+    )
+
+port-once : (m : ModuleTree) → HasPorts m → (n : Text) → count_by (bytes_eq n) (port_names m) ≤ 1
+port-once m good n =
+    let all = counted-append (in_header n) (flat_map port_mentions m.ports) (flat_map part_mentions (parts_of m)) in
+    elim (cases_lt 1 (count is_header m n)) [
+      | inl twice ↦ absurd (good n (twice_in_header (omega (arith, twice))))
+      | inr once ↦ omega (arith, all, once, ports-counted n m.ports)
+    ]
+
+distinct-counted : (ns : List Text) → ((n : Text) → count_by (bytes_eq n) ns ≤ 1) → AreDistinct ns
+distinct-counted [] h = tt
+distinct-counted (x ∷ xs) h = (
+  AllByRecursion-from_member (λ y. y ≢ x) xs apart,
+  distinct-counted xs (λ n. let once = h n in omega (arith, once, counted (bytes_eq n) x xs)),
+)
+  where
+    apart : (y : Text) → Member y xs → y ≢ x
+    apart y i e =
+        let here : ◌≡◌ {A = ℕ} (cond (bytes_eq x x) 1 0) 1 = ap (λ b. cond b 1 0) (same_bytes x x refl) in
+        let there = count_by-some (bytes_eq x) xs y (Contains-from_member y xs i) (same_bytes x y (sym e)) in
+        let once = h x in
+        omega (arith, once, here, there, counted (bytes_eq x) x xs)
+
+pub inputs-distinct : (m : ModuleTree) → HasPorts m → AreDistinct (inputs m)
+inputs-distinct m good = AreDistinct-filter (λ (n : Text). nat_lt 0 (count is_input m n)) (port_names m) (distinct-counted (port_names m) (port-once m good))
+
+input-role : (r : Role) → is_input r ≡ true → r ≡ Directed InputDirection
+input-role (Directed InputDirection) e = refl
+input-role _ e = cc
+
+-- an input is declared so
+pub input-declared : (m : ModuleTree) (n : Text) → Member n (inputs m) → Contains (mentions m) (n, Directed InputDirection)
+input-declared m n h =
+    let (r, c, t) = count-mention is_input m n (port-passes is_input m n h) in
+    subst (λ (x : Role). Contains (mentions m) (n, x)) (input-role r t) c
+
+pub once-driven : (m : ModuleTree) → IsFree (HasTwoDrivers m) → (n : Text) → count is_driven m n ≤ 1
+once-driven m free n = elim (cases_lt 1 (count is_driven m n)) [ inl twice ↦ absurd (free n (omega (arith, twice))) | inr once ↦ once ]
+
+position-of : (p : Text → Bool) (xs : List Text) (i : ℕ) → position_or_len p xs ≡ i → i < length xs → position p xs ≡ Some i
+position-of p xs i e l =
+    let less : position_or_len p xs < length xs = omega arith in
+    cond-true (nat_lt (position_or_len p xs) (length xs)) (Some (position_or_len p xs)) None (lt-ltb (position_or_len p xs) (length xs) less) ∙ ap Some e
+
+-- an input is driven by its number
+pub input-driver : (m : ModuleTree) → IsDriven m → (i : ℕ) → i < length (inputs m) → driver_of m (get_or (inputs m) i []) ≡ Input i
+input-driver m driven i l =
+    let n = get_or (inputs m) i [] in
+    let member = Member-from_contains n (inputs m) (Contains-get_or (inputs m) i [] l) in
+    let none = no-gate-of-input m n (name_count m) (once-driven m driven.0.1 n) (input-declared m n member) in
+    let place = position-of (bytes_eq n) (inputs m) i (place-of (inputs m) i n (inputs-distinct m driven.0.0.0) (slice_get-get_or (inputs m) i [] l)) l in
+    ap (λ o. chosen o (position (bytes_eq n) (inputs m))) none ∙ ap (λ p. chosen None p) place
+
+not-input : (nets i : ℕ) (d : Driver) → IsDriver 0 nets d → d ≡ Input i → ⊥
+not-input nets i (Input j) h e = omega arith
+not-input nets i (Constant b) h e = cc
+not-input nets i (Gate op ks) h e = cc
+
+-- no other net is
+only-input : (m : ModuleTree) (i k : ℕ) → i < length (inputs m) → driver_at (net_of m).drivers k ≡ Input i → k ≡ number m (get_or (inputs m) i [])
+only-input m i k l e =
+    let named_ones = map (driver_of m) (names m) in
+    let inner = inner_drivers (number m) (name_count m) (drives m) in
+    let n = get_or (inputs m) i [] in
+    elim (cases_lt k (name_count m)) [
+      | inl within ↦
+          let other = get_or (names m) k [] in
+          let at = driver-at-name m k other within (get_or_default (names m) k other [] within) in
+          elim (driver-cases m other) [
+            | inl is ↦ (let wrong : Gate is.drive.op (net_numbers (number m) (name_count m + drives_own is.before) is.drive.arguments) ≡ Input i = sym is.gate ∙ sym at ∙ e in cc)
+            | inr (inl (j, place, is)) ↦
+                let same : Input j ≡ Input i = sym is ∙ sym at ∙ e in
+                let number_same : j ≡ i = cc in
+                let passes = (position-Some (bytes_eq other) (inputs m) j [] place).1 in
+                let text : other ≡ n = same_texts other (get_or (inputs m) j []) passes ∙ ap (λ x. get_or (inputs m) x []) number_same in
+                sym (number-of m k other (slice_get-get_or (names m) k [] within)) ∙ ap (number m) text
+            | inr (inr zero_driven) ↦ (let wrong : Constant false ≡ Input i = sym zero_driven ∙ sym at ∙ e in cc)
+          ]
+      | inr past ↦ elim (cases_lt k (total m)) [
+        | inl low ↦
+            let place : k ≡ length named_ones + (k - length named_ones) = omega (arith, length-map (names m) (driver_of m)) in
+            let at = ap (driver_at (net_of m).drivers) place ∙ get_or-append-add named_ones inner (k - length named_ones) (Constant false) in
+            let is = All-get_or (IsDriver 0 (total m)) inner (k - length named_ones) (Constant false) (omega (arith, length-append named_ones inner, length-map (names m) (driver_of m))) (inner-drivers-are m) in
+            absurd (not-input (total m) i (driver_at inner (k - length named_ones)) is (sym at ∙ e))
+        | inr high ↦
+            let none : driver_at (net_of m).drivers k ≡ Constant false = get_or_past (net_of m).drivers k (Constant false) high in
+            let wrong : Constant false ≡ Input i = sym none ∙ e in
+            cc
+      ]
+    ]
+
+pub is_net : (m : ModuleTree) → IsTree m → IsDriven m → IsAcyclic (net_of m).drivers → IsNet (net_of m)
+is_net m tree driven acyclic = record {
+  few_inputs = few-of-ports is_input m tree;
+  few_outputs = omega (arith, few-of-ports is_output m tree, length-map {B = Text × ℕ} (outputs m) (λ n. (n, number m n)));
+  few_nets = few-nets m tree;
+  drivers = drivers-are m tree;
+  outputs = outputs-within m;
+  inputs = λ i l.
+      let n = get_or (inputs m) i [] in
+      let member = Member-from_contains n (inputs m) (Contains-get_or (inputs m) i [] l) in
+      record {
+        net = number m n;
+        driven = named-driver m n (port-named is_input m n member) ∙ input-driver m driven i l;
+        only = λ k e. only-input m i k l e;
+      };
+  acyclic = acyclic;
+}

@@ -1,0 +1,40 @@
+//! Laws of the definitions that the contracts cite. Nothing here runs.
+ghost use Rattle.std.specs.Prelude.{◌≡◌, ◌↔◌, ◌≤◌, Bool, List, Result, map, Contains};
+ghost use Rattle.std.specs.List.{AllZip};
+ghost use Rattle.bx_logic.specs.Nets.{IsAcyclic, IsNet, Netlist};
+ghost use Rattle.bx_logic.specs.Values.{IsNetValuation, AreOutputValues, value_of};
+ghost use Rattle.bx_syntax.specs.Parts.{ModuleTree};
+ghost use Rattle.bx_syntax.specs.Texts.{IsTree};
+ghost use Rattle.bx_verilog.specs.declared.fault.NetFault.{NetFault};
+ghost use Rattle.bx_verilog.specs.Elaboration.{Elaborates, net_of};
+ghost use Rattle.bx_verilog.specs.Equations.{Assignment, Gives, module_of};
+ghost use Rattle.bx_verilog.specs.Faults.{IsAccepted, IsDriven, IsFree, IsOnCycle};
+ghost use Rattle.bx_verilog.specs.Formulas.{Text};
+ghost use Rattle.bx_verilog.specs.Mentions.{count, inputs, is_driven, number, outputs};
+
+pub mod existence;
+pub mod expressions;
+
+/// A module has one meaning: a net, or a first fault.
+pub fn one_meaning()
+    ensures { (m : ModuleTree) (r s : Result Netlist NetFault) → Elaborates m r → Elaborates m s → r ≡ s }
+{}
+
+/// A name depends on itself by the equations of a module exactly where a net of the module's net does.
+pub fn a_cycle_of_names_is_one_of_nets()
+    ensures { (m : ModuleTree) → IsDriven m → IsFree (IsOnCycle m) ↔ IsAcyclic (net_of m).drivers }
+{}
+
+/// The lists of a module of some text, in which nothing is wrong, make a net.
+pub fn an_accepted_module_makes_a_net()
+    ensures { (m : ModuleTree) → IsTree m → IsAccepted m → IsNet (net_of m) }
+{}
+
+/// The net of a module has the values of the module's equations: whatever the values of the inputs are,
+/// each name that something drives, and so each output, has by the equations the value of its net.
+pub fn a_net_computes_its_module()
+    ensures names { (m : ModuleTree) → IsAccepted m → (a : Assignment) (values : List Bool) → IsNetValuation (net_of m).drivers (map a (inputs m)) values → (n : Text) → 1 ≤ count is_driven m n → Gives (module_of m) a n (value_of values (number m n)) }
+    ensures values { (m : ModuleTree) → IsAccepted m → (a : Assignment) (values : List Bool) → IsNetValuation (net_of m).drivers (map a (inputs m)) values → (n : Text) → Contains (outputs m) n → Gives (module_of m) a n (value_of values (number m n)) }
+    // What a net answers are the values of the outputs, in order.
+    ensures outputs { (m : ModuleTree) → IsDriven m → (a : Assignment) (outs : List Bool) → AreOutputValues (net_of m) (map a (inputs m)) outs → AllZip (Gives (module_of m) a) (outputs m) outs }
+{}

@@ -1,6 +1,5 @@
 pub mod Table
 pub mod Valuations
-pub mod Borrowed
 pub mod Chains
 pub mod Walks
 pub mod Columns

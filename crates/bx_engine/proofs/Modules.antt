@@ -16,6 +16,9 @@ use Rattle.bx_verilog.specs.Faults.{IsAccepted}
 use Rattle.bx_verilog.specs.Mentions.{inputs, outputs, number}
 use Rattle.bx_verilog.specs.Equations.{Assignment, Gives, module_of}
 use Rattle.bx_verilog.specs.Elaboration.{net_of}
+use Rattle.bx_verilog.proofs.Cyclic.{acyclic-net}
+use Rattle.bx_verilog.proofs.ElaboratedNets.{is_net}
+use Rattle.bx_verilog.proofs.Meanings.{net-gives}
 use Rattle.bx_engine.specs.Chains.{IsChain, input_name, output_name}
 use Rattle.bx_engine.specs.ChainNetworks.{chain_network, inverted}
 use Rattle.bx_engine.specs.Columns.{column, column_pins}
@@ -23,7 +26,6 @@ use Rattle.bx_engine.specs.Grids.{Computes}
 use Rattle.bx_engine.specs.Meanings.{NetworkComputes}
 use Rattle.bx_engine.specs.Reports.{report_of}
 use Rattle.bx_engine.specs.Runs.{IsText, IsLaidOut, IsLayout}
-use Rattle.bx_engine.proofs.Borrowed.{accepted-net, net-gives}
 use Rattle.bx_engine.proofs.Chains.{walk_value, input_name_is, output_name_is}
 use Rattle.bx_engine.proofs.Columns.{column-sound, column-whole}
 use Rattle.bx_engine.proofs.ChainNetworks.{chain_is_network, each_earlier_is_late_by_default}
@@ -54,15 +56,15 @@ module _ (m : ModuleTree) (k : ℕ) (tree : IsTree m) (accepted : IsAccepted m) 
   -- what the output has
   output-gives : (a : Assignment) → Gives (module_of m) a h.output (inverted k (a h.input))
   output-gives a =
-      let is_net = accepted-net m tree accepted in
+      let net = is_net m tree accepted.0 (acyclic-net m accepted.1) in
       let bits : List Bool = map a (inputs m) in
       let values : List Bool = the_values (net_of m).drivers bits in
-      let only : IsOnlyNetValuation (net_of m).drivers bits values = only_valuation (net_of m).drivers bits is_net.acyclic (net-reads_within (net_of m) is_net) in
+      let only : IsOnlyNetValuation (net_of m).drivers bits values = only_valuation (net_of m).drivers bits net.acyclic (net-reads_within (net_of m) net) in
       let among : Contains (outputs m) h.output = subst (λ (xs : List Text). Contains xs h.output) (sym module_output.0) (0, omega arith, refl) in
       let given : value_of bits 0 ≡ a h.input = ap (λ (xs : List Text). value_of (map a xs) 0) h.one_input in
       let value : value_of values (number m h.output) ≡ inverted k (a h.input) =
       ap (value_of values) module_output.1 ∙ walk_value (net_of m).drivers bits values only.is h.from k h.leads ∙ ap (inverted k) given in
-      subst (λ (b : Bool). Gives (module_of m) a h.output b) value (net-gives m tree accepted a values only.is h.output among)
+      subst (λ (b : Bool). Gives (module_of m) a h.output b) value (net-gives m accepted a values only.is h.output among)
 
   pub module-column-computes : Computes (column k) (column_pins (net_of m) k) (module_of m)
   module-column-computes = column-computes (net_of m) (module_of m) k (λ a.

@@ -12,12 +12,12 @@ use Rattle.bx_verilog.specs.declared.fault.NetFault.{NetFault}
 use Rattle.bx_verilog.specs.Formulas.{Text}
 use Rattle.bx_verilog.specs.Faults.{IsAccepted, IsFault}
 use Rattle.bx_verilog.specs.Elaboration.{net_of}
+use Rattle.bx_verilog.proofs.OneMeaning.{one-meaning}
 use Rattle.bx_engine.specs.declared.status.InputFault.{InputFault}
 use Rattle.bx_engine.specs.declared.status.InputFault.TheVariants.{TooLong, Lex, Read, Net, NotBuilt}
 use Rattle.bx_engine.specs.declared.status.Which.{Which}
 use Rattle.bx_engine.specs.Chains.{IsChain}
 use Rattle.bx_engine.specs.Runs.{IsText, IsNoModule, IsNotBuilt, IsRefused, IsLaidOut, AreAlike}
-use Rattle.bx_engine.proofs.Borrowed.{one-meaning}
 use Rattle.bx_engine.proofs.Chains.{one_number}
 
 module _ (text : Text) where

@@ -15,7 +15,7 @@ use Rattle.bx_engine.specs.Statuses.{IsSettled}
 use Rattle.bx_engine.specs.ChainNetworks.{chain_network}
 use Rattle.bx_engine.specs.Columns.{column}
 use Rattle.bx_engine.specs.Reports.{report_of}
-use Rattle.bx_engine.specs.Runs.{net_word, net_text, IsRefused, AreAlike, IsLaidOut, IsLayout, HasText, IsThere, IsAnswer, no_command, refused as refused_for, laid_out}
+use Rattle.bx_engine.specs.Runs.{net_word, net_text, IsRefused, AreAlike, IsLaidOut, IsLayout, IsThere, IsAnswer, no_command, refused as refused_for, laid_out}
 use Rattle.bx_engine.specs.Serves.{Outcome, answered, unsaid, unread, no_memory}
 use Rattle.bx_engine.proofs.Answers.{no_text, of_this}
 use Rattle.bx_engine.proofs.Readings.{refused_alike, not_both, one_layout}

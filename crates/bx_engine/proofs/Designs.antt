@@ -1,5 +1,5 @@
 -- Why no layout is made of a text, from the fault of a lower reader.
-use Rattle.std.proofs.Common.{◌≡◌, Result, Ok, Err, sym, subst, refl}
+use Rattle.std.proofs.Common.{◌≡◌, Result, Ok, Err, sym, subst}
 use Rattle.std.specs.Prelude.{◌≢◌, IfErr}
 use Rattle.std.specs.Result.{IsErrAnd}
 use Rattle.bx_lex.specs.Tokens.{TokenList, HasTokens}
@@ -13,7 +13,7 @@ use Rattle.bx_verilog.specs.declared.fault.NetFault.TheVariants.{BadPort, NoOutp
 use Rattle.bx_verilog.specs.Formulas.{Text}
 use Rattle.bx_verilog.specs.Faults.{IsFault}
 use Rattle.bx_engine.specs.declared.design.NoLayout.{NoLayout}
-use Rattle.bx_engine.specs.Runs.{IsShort, IsText, IsNoModule}
+use Rattle.bx_engine.specs.Runs.{IsShort, IsText}
 use Rattle.bx_engine.specs.Endings.{read_end, net_end, TextEnds}
 
 -- an error that is the end of this fault

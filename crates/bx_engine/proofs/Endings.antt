@@ -1,12 +1,11 @@
 -- A text that was said and handed on, and what the end of a run says then.
-use Rattle.std.proofs.Common.{◌≡◌, ℕ, List, [], ◌∷◌, ◌++◌, ◌≤◌, Option, Result, Ok, Err, sym, ◌∙◌, subst, arith}
+use Rattle.std.proofs.Common.{◌≡◌, ℕ, List, [], ◌++◌, ◌≤◌, Option, Result, Ok, Err, sym, ◌∙◌, subst, arith}
 use Rattle.std.proofs.lemmas.List.{append-nil}
 use Rattle.std.specs.Prelude.{OnOk, OnErr}
 use Rattle.bx_desk.specs.Desk.{Files, Counts, Rose, Adds, AddsUpTo}
 use Rattle.bx_desk.specs.Pieces.{HandsOn}
 use Rattle.bx_desk.specs.declared.desk.Failed.{Failed}
 use Rattle.bx_desk.proofs.Said.{adds_piece, adds_front}
-use Rattle.bx_verilog.specs.Formulas.{Text}
 use Rattle.bx_engine.specs.declared.status.Status.{Status}
 use Rattle.bx_engine.specs.declared.status.Status.TheVariants.{WriteFault}
 use Rattle.bx_engine.specs.declared.status.Which.TheVariants.{Output}

@@ -1,6 +1,6 @@
 -- The column of a chain has the chain's ports, and computes what gives its output the input's value
 -- inverted as many times.
-use Rattle.std.proofs.Common.{◌≡◌, ℕ, ◌+◌, Bool, List, [], ◌∷◌, inl, refl, sym, ◌∙◌, ap, subst, arith}
+use Rattle.std.proofs.Common.{ℕ, ◌+◌, Bool, List, [], ◌∷◌, inl, refl, sym, ◌∙◌, ap, subst, arith}
 use Rattle.bx_logic.specs.Nets.{Netlist}
 use Rattle.bx_verilog.specs.Formulas.{Text}
 use Rattle.bx_verilog.specs.Equations.{Module, Assignment, Gives}

@@ -1,9 +1,8 @@
 -- A module whose net is a chain gives its output the value of its input, inverted as many times; and
 -- what its layout is worth.
-use Rattle.std.proofs.Common.{◌≡◌, ℕ, ◌+◌, ◌≤◌, Bool, List, [], ◌∷◌, length, map, refl, sym, ◌∙◌, ap, subst, arith}
+use Rattle.std.proofs.Common.{◌≡◌, ℕ, ◌≤◌, Bool, List, [], ◌∷◌, length, map, refl, sym, ◌∙◌, ap, subst, arith}
 use Rattle.std.specs.Prelude.{Contains, slice_index, slice_index_or}
 use Rattle.std.proofs.lemmas.List.{length-map}
-use Rattle.bx_lex.specs.Tokens.{TokenList, HasTokens}
 use Rattle.bx_lex.proofs.Cuts.{tokens_spans, tokens_whole}
 use Rattle.bx_logic.specs.Values.{value_of, IsOnlyNetValuation}
 use Rattle.bx_logic.proofs.Valuations.{the_values, only_valuation, net-reads_within}
@@ -19,7 +18,7 @@ use Rattle.bx_verilog.specs.Elaboration.{net_of}
 use Rattle.bx_verilog.proofs.Cyclic.{acyclic-net}
 use Rattle.bx_verilog.proofs.ElaboratedNets.{is_net}
 use Rattle.bx_verilog.proofs.Meanings.{net-gives}
-use Rattle.bx_engine.specs.Chains.{IsChain, input_name, output_name}
+use Rattle.bx_engine.specs.Chains.{IsChain, input_name}
 use Rattle.bx_engine.specs.ChainNetworks.{chain_network, inverted}
 use Rattle.bx_engine.specs.Columns.{column, column_pins}
 use Rattle.bx_engine.specs.Grids.{Computes}

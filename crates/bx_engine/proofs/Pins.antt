@@ -1,5 +1,5 @@
 -- The names of the input pins are those of the used inputs.
-use Rattle.std.proofs.Common.{◌≡◌, ℕ, zero, suc, ◌+◌, ◌≢◌, ◌↔◌, List, [], ◌∷◌, Contains, Some, refl, sym, ◌∙◌, ap, subst, arith, inl, inr}
+use Rattle.std.proofs.Common.{◌≡◌, ℕ, zero, suc, ◌+◌, ◌≢◌, ◌↔◌, List, [], ◌∷◌, Contains, Some, refl, sym, subst, arith, inl, inr}
 use Rattle.std.specs.Prelude.{slice_get}
 use Rattle.std.specs.List.{AllByRecursion}
 use Rattle.bx_logic.specs.Lists.{AreDistinct}

@@ -1,6 +1,6 @@
 -- A text is refused for one fault, but for which fault of reading it is, or laid out in one way, and
 -- never both.
-use Rattle.std.proofs.Common.{◌≡◌, ℕ, ◌<◌, ◌≤◌, List, length, Result, Ok, Err, refl, sym, ◌∙◌, ap, subst, arith, inl, inr}
+use Rattle.std.proofs.Common.{◌≡◌, ℕ, Ok, Err, refl, sym, ◌∙◌, ap, subst, arith, inl, inr}
 use Rattle.bx_lex.specs.declared.token.LexFault.{LexFault}
 use Rattle.bx_lex.specs.Tokens.{TokenList, HasTokens, HasFault}
 use Rattle.bx_lex.proofs.Readings.{one_reading}
@@ -15,7 +15,6 @@ use Rattle.bx_verilog.specs.Elaboration.{net_of}
 use Rattle.bx_verilog.proofs.OneMeaning.{one-meaning}
 use Rattle.bx_engine.specs.declared.status.InputFault.{InputFault}
 use Rattle.bx_engine.specs.declared.status.InputFault.TheVariants.{TooLong, Lex, Read, Net, NotBuilt}
-use Rattle.bx_engine.specs.declared.status.Which.{Which}
 use Rattle.bx_engine.specs.Chains.{IsChain}
 use Rattle.bx_engine.specs.Runs.{IsText, IsNoModule, IsNotBuilt, IsRefused, IsLaidOut, AreAlike}
 use Rattle.bx_engine.proofs.Chains.{one_number}

@@ -1,11 +1,10 @@
 -- From how a run's steps end to the answer that the words and the file give.
-use Rattle.std.proofs.Common.{◌≡◌, ℕ, ◌+◌, ◌<◌, List, ◌++◌, length, length-append, Option, Some, None, refl, sym, ◌∙◌, ap, subst, arith}
+use Rattle.std.proofs.Common.{◌≡◌, ℕ, List, Option, Some, None, refl, sym, ◌∙◌, ap, subst}
 use Rattle.std.specs.Prelude.{String, IsSome, option_and_then}
-use Rattle.bx_desk.specs.Desk.{Files, Counts, Rose, IsFile, BeginsFile}
+use Rattle.bx_desk.specs.Desk.{Files, Counts, Rose, IsFile}
 use Rattle.bx_logic.specs.Nets.{Netlist}
 use Rattle.bx_syntax.specs.Parts.{ModuleTree}
 use Rattle.bx_verilog.specs.Formulas.{Text}
-use Rattle.bx_verilog.specs.Elaboration.{net_of}
 use Rattle.bx_engine.specs.declared.status.InputFault.{InputFault}
 use Rattle.bx_engine.specs.declared.status.Status.{Status}
 use Rattle.bx_engine.specs.declared.status.Status.TheVariants.{Found, Refused}
@@ -13,9 +12,8 @@ use Rattle.bx_engine.specs.Grids.{FormGrid}
 use Rattle.bx_engine.specs.Columns.{column}
 use Rattle.bx_engine.specs.Texts.{refusal_text, input_fault_text}
 use Rattle.bx_engine.specs.Reports.{report_of}
-use Rattle.bx_engine.specs.Chains.{IsChain}
 use Rattle.bx_engine.specs.Runs.{net_word, net_text, IsRefused, HasText, IsThere, IsAnswer, refused, laid_out}
-use Rattle.bx_engine.specs.Endings.{Ends, done, failed, EndsSaying, HasLayout, ReadsLayout}
+use Rattle.bx_engine.specs.Endings.{Ends, done, failed, EndsSaying, ReadsLayout}
 use Rattle.bx_engine.specs.Serves.{Outcome, answered, unsaid, Serves}
 
 -- a file of which a text is told is there

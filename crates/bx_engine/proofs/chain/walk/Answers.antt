@@ -1,6 +1,4 @@
-use Rattle.std.proofs.Common.{refl, sym, ◌∙◌, arith}
-use Rattle.bx_logic.specs.declared.op.Op.TheVariants.{Buf, Not}
-use Rattle.bx_logic.specs.declared.driver.Driver.TheVariants.{Gate}
+use Rattle.std.proofs.Common.{refl, arith}
 use Rattle.bx_engine.proofs.Walks.{next_within, next_cheaper, on_copy, on_inversion, at_input}
 use Rattle.bx_engine.proofs.chain.walk.Goals as goal
 

@@ -28,5 +28,6 @@ pub mod Readings
 pub mod Answers
 pub mod Spellings
 pub mod PlainTexts
+pub mod PlainNames
 pub mod FormNames
 pub mod Reports

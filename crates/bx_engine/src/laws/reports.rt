@@ -2,12 +2,13 @@
 //! one. Nothing here runs.
 ghost use Rattle.std.specs.Prelude.{◌≡◌, ◌<◌, ◌^◌, ℕ, length};
 ghost use Rattle.bx_verilog.specs.Formulas.{Text};
-ghost use Rattle.bx_logic.specs.Nets.{Netlist};
-ghost use Rattle.bx_engine.specs.Chains.{IsChain, input_name, output_name};
+ghost use Rattle.bx_syntax.specs.Parts.{ModuleTree};
+ghost use Rattle.bx_verilog.specs.Elaboration.{net_of};
+ghost use Rattle.bx_engine.specs.Runs.{IsLaidOut};
 ghost use Rattle.bx_engine.specs.Columns.{column, column_pins};
 ghost use Rattle.bx_engine.specs.Grids.{FormGrid, Pins};
 ghost use Rattle.bx_engine.specs.Networks.{Network};
-ghost use Rattle.bx_engine.specs.Texts.{IsPlain, IsReportable, report_text, refusal_text};
+ghost use Rattle.bx_engine.specs.Texts.{IsReportable, report_text, refusal_text};
 
 /// Layouts with the same report are the same, in the module's name, the grid and the ports, and their
 /// networks have the same size.
@@ -19,10 +20,9 @@ pub fn a_report_shows_one_layout()
         → report_text m M g p ≡ report_text n N h q → (length M.nodes ≡ length N.nodes) × (length M.edges ≡ length N.edges) }
 {}
 
-/// The layout of each chain whose names are plain is one that its report can tell from any other.
+/// Each layout of a text is one that its report can tell from any other: its names are plain.
 pub fn the_layout_of_a_chain_is_reportable()
-    ensures { (net : Netlist) (k : ℕ) → IsChain net k → IsPlain net.name → IsPlain (input_name net) → IsPlain (output_name net)
-        → IsReportable net.name (column k) (column_pins net k) }
+    ensures { (text : Text) (m : ModuleTree) (k : ℕ) → IsLaidOut text m k → IsReportable m.name (column k) (column_pins (net_of m) k) }
 {}
 
 /// No refusal has the text of a report.

@@ -1,38 +1,51 @@
--- What an input gives is one answer.
-use Rattle.std.proofs.Common.{◌≡◌, List, Option, Some, None, sym, ◌∙◌, ap, refl}
+-- What an input gives is one answer, but for which fault of reading a refusal names.
+use Rattle.std.proofs.Common.{◌≡◌, ℕ, List, Option, Some, None, sym, ◌∙◌, ap, subst, refl, inl, inr}
 use Rattle.std.specs.Prelude.{String, option_and_then}
 use Rattle.bx_desk.specs.Desk.{Files}
-use Rattle.bx_syntax.specs.Module.{Text}
-use Rattle.bx_syntax.specs.Chain.{Chain, IsChain, spelling}
-use Rattle.bx_syntax.proofs.Whole.{chain_once}
+use Rattle.bx_syntax.specs.Parts.{ModuleTree}
+use Rattle.bx_verilog.specs.Formulas.{Text}
+use Rattle.bx_verilog.specs.Elaboration.{net_of}
+use Rattle.bx_engine.specs.declared.status.InputFault.{InputFault}
 use Rattle.bx_engine.specs.declared.status.Status.{Status}
-use Rattle.bx_engine.specs.declared.status.Status.TheVariants.{Found}
-use Rattle.bx_engine.specs.Runs.{net_word, net_text, layout_of, report_of, HasText, IsAnswer, no_command, no_form, laid_out}
+use Rattle.bx_engine.specs.declared.status.Status.TheVariants.{Found, Refused}
+use Rattle.bx_engine.specs.Columns.{column}
+use Rattle.bx_engine.specs.Reports.{report_of}
+use Rattle.bx_engine.specs.Texts.{refusal_text, input_fault_text}
+use Rattle.bx_engine.specs.Runs.{net_word, net_text, IsRefused, IsLaidOut, HasText, AreAlike, AreAlikeAnswers, IsAnswer, no_command, refused, laid_out}
+use Rattle.bx_engine.proofs.Readings.{refused_alike, not_both, one_layout}
+
+-- refusals for faults that are alike are alike
+alike_refusals : (f g : InputFault) → AreAlike f g → AreAlikeAnswers (Refused f) (refusal_text (input_fault_text f)) (Refused g) (refusal_text (input_fault_text g))
+alike_refusals f g (inl same) = inl (ap Refused same, ap (λ (x : InputFault). refusal_text (input_fault_text x)) same)
+alike_refusals f g (inr both) = inr both
 
 module _ {A : Type 0} (words : List (String A)) (told : Option Files) where
   pub one_answer_of_words : (s t : Status) (x y : Text) → net_word words ≡ None → IsAnswer words told s x → IsAnswer words told t y → (s ≡ t) × (x ≡ y)
   one_answer_of_words _ _ _ _ none (no_command a) (no_command b) = (refl, refl)
-  one_answer_of_words _ _ _ _ none (no_form net named there n) b = let lost : None ≡ Some net = sym none ∙ named in cc
-  one_answer_of_words _ _ _ _ none (laid_out net named there c is has) b = let lost : None ≡ Some net = sym none ∙ named in cc
-  one_answer_of_words _ _ _ _ none (no_command a) (no_form net named there n) = let lost : None ≡ Some net = sym none ∙ named in cc
-  one_answer_of_words _ _ _ _ none (no_command a) (laid_out net named there c is has) = let lost : None ≡ Some net = sym none ∙ named in cc
+  one_answer_of_words _ _ _ _ none (refused net text f named there has is) b = let lost : None ≡ Some net = sym none ∙ named in cc
+  one_answer_of_words _ _ _ _ none (laid_out net text m k named there has is) b = let lost : None ≡ Some net = sym none ∙ named in cc
+  one_answer_of_words _ _ _ _ none (no_command a) (refused net text f named there has is) = let lost : None ≡ Some net = sym none ∙ named in cc
+  one_answer_of_words _ _ _ _ none (no_command a) (laid_out net text m k named there has is) = let lost : None ≡ Some net = sym none ∙ named in cc
 
-  no_text : (text : Text) → net_word words ≡ None → net_text words told ≡ Some text → ⊥
+  -- words that name no file have no text
+  pub no_text : (text : Text) → net_word words ≡ None → net_text words told ≡ Some text → ⊥
   no_text text none e = let lost : None ≡ Some text = sym (ap (option_and_then (λ (net : Text). option_and_then (λ files. files net) told)) none) ∙ e in cc
 
-  -- a text that is told is one chain's, or of no form
-  formless : (text : Text) (c : Chain) → IsChain c → HasText words told (spelling c) → net_text words told ≡ Some text → net_text words told ≡ Some (spelling c)
-  formless text c is has e = e ∙ ap Some (has text e)
+  module _ (text : Text) (e : net_text words told ≡ Some text) where
+    -- what is known of a text that the file has is known of this one
+    pub of_this : (P : Text → Type 0) (other : Text) → HasText words told other → P other → P text
+    of_this P other has p = subst P (sym (has text e)) p
 
-  same : (text : Text) (c d : Chain) → IsChain c → IsChain d → HasText words told (spelling c) → HasText words told (spelling d) → net_text words told ≡ Some text → c ≡ d
-  same text c d is_c is_d has_c has_d e = chain_once c d is_c is_d (sym (has_c text e) ∙ has_d text e)
-
-  pub one_answer_of_text : (s t : Status) (x y text : Text) → net_text words told ≡ Some text → IsAnswer words told s x → IsAnswer words told t y → (s ≡ t) × (x ≡ y)
-  one_answer_of_text _ _ _ _ text e (no_command none) b = absurd (no_text text none e)
-  one_answer_of_text _ _ _ _ text e (no_form net named there n) (no_command none) = absurd (no_text text none e)
-  one_answer_of_text _ _ _ _ text e (no_form net named there n) (no_form net' named' there' n') = (refl, refl)
-  one_answer_of_text _ _ _ _ text e (no_form net named there n) (laid_out net' named' there' c is has) = absurd (n c is (formless text c is has e))
-  one_answer_of_text _ _ _ _ text e (laid_out net named there c is has) (no_command none) = absurd (no_text text none e)
-  one_answer_of_text _ _ _ _ text e (laid_out net named there c is has) (no_form net' named' there' n) = absurd (n c is (formless text c is has e))
-  one_answer_of_text _ _ _ _ text e (laid_out net named there c is has) (laid_out net' named' there' d is' has') =
-      let one : c ≡ d = same text c d is is' has has' e in (ap (λ (q : Chain). Found (layout_of q).ratio) one, ap report_of one)
+    pub one_answer_of_text : (s t : Status) (x y : Text) → IsAnswer words told s x → IsAnswer words told t y → AreAlikeAnswers s x t y
+    one_answer_of_text _ _ _ _ (no_command none) b = absurd (no_text text none e)
+    one_answer_of_text _ _ _ _ (refused net u f named there has is) (no_command none) = absurd (no_text text none e)
+    one_answer_of_text _ _ _ _ (refused net u f named there has is) (refused net' v g named' there' has' is') =
+        alike_refusals f g (refused_alike text f g (of_this (λ t. IsRefused t f) u has is) (of_this (λ t. IsRefused t g) v has' is'))
+    one_answer_of_text _ _ _ _ (refused net u f named there has is) (laid_out net' v m k named' there' has' is') =
+        absurd (not_both text m k f (of_this (λ t. IsLaidOut t m k) v has' is') (of_this (λ t. IsRefused t f) u has is))
+    one_answer_of_text _ _ _ _ (laid_out net u m j named there has is) (no_command none) = absurd (no_text text none e)
+    one_answer_of_text _ _ _ _ (laid_out net u m j named there has is) (refused net' v f named' there' has' is') =
+        absurd (not_both text m j f (of_this (λ t. IsLaidOut t m j) u has is) (of_this (λ t. IsRefused t f) v has' is'))
+    one_answer_of_text _ _ _ _ (laid_out net u m j named there has is) (laid_out net' v n k named' there' has' is') =
+        let same = one_layout text m n j k (of_this (λ t. IsLaidOut t m j) u has is) (of_this (λ t. IsLaidOut t n k) v has' is') in
+        inl (ap (λ (i : ℕ). Found (column i).ratio) same.1, ap (λ (t : ModuleTree). report_of (net_of t) j) same.0 ∙ ap (report_of (net_of n)) same.1)

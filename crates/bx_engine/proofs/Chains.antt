@@ -1,105 +1,115 @@
--- What a chain gives its output: the value of its input, negated once for each `not`. A valuation of
--- its nets is made statement by statement, which the names allow since they differ.
-use Rattle.std.proofs.Common.{◌≡◌, ℕ, zero, suc, ◌+◌, Bool, not, List, [], ◌∷◌, map, refl, sym, ◌∙◌, ap, arith, inl, inr, ◌≢◌}
-use Rattle.std.specs.Prelude.{if◌then◌else◌, Contains, cond, bytes_eq}
-use Rattle.std.specs.List.{AllByRecursion}
-use Rattle.std.proofs.lemmas.Bool.{false_from_ne_true}
-use Rattle.std.proofs.lemmas.List.Sums.{sum_by-cons}
-use Rattle.std.proofs.lemmas.Slice.Eq.{bytes_eq-Decides}
+-- What a walk to the input says: there is one at most, it gives the input's value inverted as many times
+-- as it says, and the input that it comes to is used.
+use Rattle.std.proofs.Common.{◌≡◌, ℕ, suc, ◌<◌, Bool, false, not, List, [], ◌∷◌, length, map, refl, sym, ◌∙◌, ap, subst, arith, inl, inr}
+use Rattle.std.specs.Prelude.{◌≢◌, ◌⊎◌, Contains, slice_index_or}
+use Rattle.std.proofs.lemmas.Bool.{cases_lt}
+use Rattle.std.proofs.lemmas.List.{get_or_past}
+use Rattle.bx_logic.specs.declared.op.Op.{Op}
 use Rattle.bx_logic.specs.declared.op.Op.TheVariants.{Buf, Not}
-use Rattle.bx_logic.specs.Op.{op_value}
-use Rattle.bx_syntax.specs.Module.{Text, Equation, Module, Assignment, Meets, Gives}
-use Rattle.bx_logic.specs.Lists.{AreDistinct}
-use Rattle.bx_syntax.specs.Chain.{Chain, Statement, IsChain, IsUnary, Follows, last_net, targets, is_not, inversions, equation_of, module_of}
-use Rattle.bx_engine.specs.Grids.{IsUsed}
+use Rattle.bx_logic.specs.declared.driver.Driver.{Driver}
+use Rattle.bx_logic.specs.declared.driver.Driver.TheVariants.{Input, Constant, Gate}
+use Rattle.bx_logic.specs.Nets.{Netlist, arguments_of, driver_at, output_names, output_nets, Reads, DependsOn, directly, through}
+use Rattle.bx_logic.specs.Values.{value_of, driver_value, IsNetValuation, output_values}
+use Rattle.bx_verilog.specs.Formulas.{Text}
 use Rattle.bx_engine.specs.ChainNetworks.{inverted}
+use Rattle.bx_engine.specs.Chains.{LeadsToInput, input, copy, inversion, IsChain, input_name, output_name}
+use Rattle.bx_engine.specs.Grids.{IsUsed}
 
-inverted-not : (n : ℕ) (b : Bool) → inverted n (not b) ≡ not (inverted n b)
-inverted-not zero b = refl
-inverted-not (suc n) b = ap not (inverted-not n b)
+module _ (drivers : List Driver) where
+  -- two walks from a net go the same way
+  pub one_count : (n j k : ℕ) → LeadsToInput drivers n j → LeadsToInput drivers n k → j ≡ k
+  one_count _ _ _ (input n e) (input _ f) = refl
+  one_count _ _ _ (input n e) (copy _ m k f b) = let lost : Input 0 ≡ Gate Buf (m ∷ []) = sym e ∙ f in cc
+  one_count _ _ _ (input n e) (inversion _ m k f b) = let lost : Input 0 ≡ Gate Not (m ∷ []) = sym e ∙ f in cc
+  one_count _ _ _ (copy n m j e a) (input _ f) = let lost : Input 0 ≡ Gate Buf (m ∷ []) = sym f ∙ e in cc
+  one_count _ _ _ (copy n m j e a) (copy _ l k f b) =
+      let same : Gate Buf (l ∷ []) ≡ Gate Buf (m ∷ []) = sym f ∙ e in
+      let net : l ≡ m = cc in
+      one_count m j k a (subst (λ (x : ℕ). LeadsToInput drivers x k) net b)
+  one_count _ _ _ (copy n m j e a) (inversion _ l k f b) = let lost : Gate Buf (m ∷ []) ≡ Gate Not (l ∷ []) = sym e ∙ f in cc
+  one_count _ _ _ (inversion n m j e a) (input _ f) = let lost : Input 0 ≡ Gate Not (m ∷ []) = sym f ∙ e in cc
+  one_count _ _ _ (inversion n m j e a) (copy _ l k f b) = let lost : Gate Not (m ∷ []) ≡ Gate Buf (l ∷ []) = sym e ∙ f in cc
+  one_count _ _ _ (inversion n m j e a) (inversion _ l k f b) =
+      let same : Gate Not (l ∷ []) ≡ Gate Not (m ∷ []) = sym f ∙ e in
+      let net : l ≡ m = cc in
+      ap suc (one_count m j k a (subst (λ (x : ℕ). LeadsToInput drivers x k) net b))
 
-inversions-cons : (s : Statement) (ss : List Statement) → inversions (s ∷ ss) ≡ cond (is_not s.op) 1 0 + inversions ss
-inversions-cons s ss = sum_by-cons (λ s. cond (is_not s.op) 1 0) s ss
+  -- from other drivers there is none
+  pub no_walk_from_constant : (n k : ℕ) (b : Bool) → driver_at drivers n ≡ Constant b → LeadsToInput drivers n k → ⊥
+  no_walk_from_constant n _ b e (input _ f) = let lost : Constant b ≡ Input 0 = sym e ∙ f in cc
+  no_walk_from_constant n _ b e (copy _ m k f a) = let lost : Constant b ≡ Gate Buf (m ∷ []) = sym e ∙ f in cc
+  no_walk_from_constant n _ b e (inversion _ m k f a) = let lost : Constant b ≡ Gate Not (m ∷ []) = sym e ∙ f in cc
 
-inversions-buf : (s : Statement) (ss : List Statement) → s.op ≡ Buf → inversions (s ∷ ss) ≡ inversions ss
-inversions-buf s ss e = inversions-cons s ss ∙ ap (λ op. cond (is_not op) 1 0 + inversions ss) e ∙ omega arith
+  pub no_walk_from_gate : (n k : ℕ) (op : Op) (arguments : List ℕ) → driver_at drivers n ≡ Gate op arguments → op ≢ Buf → op ≢ Not → LeadsToInput drivers n k → ⊥
+  no_walk_from_gate n _ op arguments e no_buf no_not (input _ f) = let lost : Gate op arguments ≡ Input 0 = sym e ∙ f in cc
+  no_walk_from_gate n _ op arguments e no_buf no_not (copy _ m k f a) = let same : Gate op arguments ≡ Gate Buf (m ∷ []) = sym e ∙ f in no_buf cc
+  no_walk_from_gate n _ op arguments e no_buf no_not (inversion _ m k f a) = let same : Gate op arguments ≡ Gate Not (m ∷ []) = sym e ∙ f in no_not cc
 
-inversions-not : (s : Statement) (ss : List Statement) → s.op ≡ Not → inversions (s ∷ ss) ≡ suc (inversions ss)
-inversions-not s ss e = inversions-cons s ss ∙ ap (λ op. cond (is_not op) 1 0 + inversions ss) e ∙ omega arith
+  -- a net that isn't constant is one of them
+  within : (n : ℕ) → (driver_at drivers n ≡ Constant false → ⊥) → n < length drivers
+  within n other = elim (cases_lt n (length drivers)) [
+    | inl l ↦ l
+    | inr past ↦ absurd (other (get_or_past drivers n (Constant false) past))
+  ]
 
--- in every valuation
-chain-value : (v : Assignment) (net : Text) (ss : List Statement) → Follows net ss → AllByRecursion (λ s. IsUnary s.op) ss →
-    AllByRecursion (Meets v) (map equation_of ss) → v (last_net net ss) ≡ inverted (inversions ss) (v net)
-chain-value v net [] f u m = refl
-chain-value v net (s ∷ ss) f u m =
-    let rest : v (last_net s.target ss) ≡ inverted (inversions ss) (v s.target) = chain-value v s.target ss f.1 u.1 m.1 in
-    let here : v s.target ≡ op_value s.op (v net ∷ []) = m.0 ∙ ap (λ n. op_value s.op (v n ∷ [])) f.0 in
-    elim u.0 [
-      | inl e ↦ rest
-          ∙ ap (inverted (inversions ss)) (here ∙ ap (λ op. op_value op (v net ∷ [])) e)
-          ∙ ap (λ n. inverted n (v net)) (sym (inversions-buf s ss e))
-      | inr e ↦ rest
-          ∙ ap (inverted (inversions ss)) (here ∙ ap (λ op. op_value op (v net ∷ [])) e)
-          ∙ inverted-not (inversions ss) (v net)
-          ∙ ap (λ n. inverted n (v net)) (sym (inversions-not s ss e))
-    ]
+  module _ (bits values : List Bool) (is : IsNetValuation drivers bits values) where
+    value_is : (n : ℕ) (d : Driver) → driver_at drivers n ≡ d → (d ≡ Constant false → ⊥) → value_of values n ≡ driver_value bits (value_of values) d
+    value_is n d e other = is.each n (within n (λ c. other (sym e ∙ c))) ∙ ap (driver_value bits (value_of values)) e
 
--- v with another value for one net
-abbrev pub update : Assignment → Text → Bool → Assignment
-update v x b net = if bytes_eq net x then b else v net
+    -- the value of the net where the walk begins
+    pub walk_value : (n k : ℕ) → LeadsToInput drivers n k → value_of values n ≡ inverted k (value_of bits 0)
+    walk_value _ _ (input n e) = value_is n (Input 0) e (λ c. cc)
+    walk_value _ _ (copy n m k e a) = value_is n (Gate Buf (m ∷ [])) e (λ c. cc) ∙ walk_value m k a
+    walk_value _ _ (inversion n m k e a) = value_is n (Gate Not (m ∷ [])) e (λ c. cc) ∙ ap not (walk_value m k a)
 
--- v with the values of the statements, one after the other
-abbrev pub extend : Assignment → List Statement → Assignment
-extend v [] = v
-extend v (s ∷ ss) = extend (update v s.target (op_value s.op (v s.source ∷ []))) ss
+  -- the net is driven by this input, or depends on one that is
+  abbrev pub Reaches : ℕ → Type 0
+  Reaches n = (source : ℕ) × (driver_at drivers source ≡ Input 0) × ((n ≡ source) ⊎ DependsOn drivers n source)
 
-pub update-same : (v : Assignment) (x : Text) (b : Bool) → update v x b x ≡ b
-update-same v x b = ap (λ t. if t then b else v x) ((bytes_eq-Decides x x).1 refl)
+  pub reads : (n m : ℕ) (d : Driver) → driver_at drivers n ≡ d → arguments_of d ≡ m ∷ [] → Reads drivers n m
+  reads n m d e args = subst (λ (xs : List ℕ). Contains xs m) (sym (ap arguments_of e ∙ args)) (0, omega arith, refl)
 
-pub update-other : (v : Assignment) (x : Text) (b : Bool) (net : Text) → x ≢ net → update v x b net ≡ v net
-update-other v x b net ne = ap (λ t. if t then b else v net) (false_from_ne_true (bytes_eq net x) (λ e. ne (sym ((bytes_eq-Decides net x).0 e))))
+  step : (n m : ℕ) → Reads drivers n m → Reaches m → Reaches n
+  step n m r (source, driven, inl same) = (source, driven, inr (directly n source (subst (Reads drivers n) same r)))
+  step n m r (source, driven, inr depends) = (source, driven, inr (through n m source r depends))
 
-extend-keeps : (v : Assignment) (ss : List Statement) (net : Text) → AllByRecursion (λ y. y ≢ net) (targets ss) → extend v ss net ≡ v net
-extend-keeps v [] net h = refl
-extend-keeps v (s ∷ ss) net h =
-    let b = op_value s.op (v s.source ∷ []) in
-    extend-keeps (update v s.target b) ss net h.1 ∙ update-other v s.target b net h.0
+  pub reaches : (n k : ℕ) → LeadsToInput drivers n k → Reaches n
+  reaches _ _ (input n e) = (n, e, inl refl)
+  reaches _ _ (copy n m k e a) = step n m (reads n m (Gate Buf (m ∷ [])) e refl) (reaches m k a)
+  reaches _ _ (inversion n m k e a) = step n m (reads n m (Gate Not (m ∷ [])) e refl) (reaches m k a)
 
-extend-meets : (v : Assignment) (net : Text) (ss : List Statement) → Follows net ss → AreDistinct (net ∷ targets ss) →
-    AllByRecursion (Meets (extend v ss)) (map equation_of ss)
-extend-meets v net [] f d = tt
-extend-meets v net (s ∷ ss) f d =
-    let b = op_value s.op (v s.source ∷ []) in
-    let w : Assignment = extend v (s ∷ ss) in
-    let target : w s.target ≡ b = extend-keeps (update v s.target b) ss s.target d.1.0 ∙ update-same v s.target b in
-    let net_stays : w net ≡ v net = extend-keeps v (s ∷ ss) net d.0 in
-    let source : w s.source ≡ v s.source = ap w f.0 ∙ net_stays ∙ ap v (sym f.0) in
-    (target ∙ ap (λ c. op_value s.op (c ∷ [])) (sym source), extend-meets (update v s.target b) s.target ss f.1 d.1)
+module _ (net : Netlist) (k : ℕ) (h : IsChain net k) where
+  pub input_name_is : input_name net ≡ h.input
+  input_name_is = ap (λ (xs : List Text). slice_index_or xs 0 []) h.one_input
 
--- what the module of a chain gives its output
-pub chain-gives : (c : Chain) → IsChain c → (a : Assignment) → Gives (module_of c) a c.output (inverted (inversions c.statements) (a c.input))
-chain-gives c h a = record {
-  some = (
-    extend a c.statements,
-    record {
-      inputs = (extend-keeps a c.statements c.input h.distinct.0, tt);
-      equations = extend-meets a c.input c.statements h.follows h.distinct;
-    },
-  );
-  every = λ v is. ap v (sym h.ends) ∙ chain-value v c.input c.statements h.follows h.unary is.equations ∙ ap (inverted (inversions c.statements)) is.inputs.0;
-}
+  pub output_names_are : output_names net ≡ h.output ∷ []
+  output_names_are = ap (λ (xs : List (Text × ℕ)). map (λ (x : Text × ℕ). x.0) xs) h.one_output
 
-Contains-next : {X : Type 0} (x : X) (xs : List X) (y : X) → Contains xs y → Contains (x ∷ xs) y
-Contains-next x xs y (k, h, e) = (suc k, omega arith, e)
+  pub output_nets_are : output_nets net ≡ h.from ∷ []
+  output_nets_are = ap (λ (xs : List (Text × ℕ)). map (λ (x : Text × ℕ). x.1) xs) h.one_output
 
-used-from : (m : Module) (net : Text) (ss : List Statement) → Follows net ss →
-    ((e : Equation) → Contains (map equation_of ss) e → Contains m.equations e) → IsUsed m (last_net net ss) → IsUsed m net
-used-from m net [] f h u = u
-used-from m net (s ∷ ss) f h u =
-    let next : IsUsed m s.target = used-from m s.target ss f.1 (λ e c. h e (Contains-next (equation_of s) (map equation_of ss) e c)) u in
-    IsUsed.read net (equation_of s) (h (equation_of s) (0, omega arith, refl)) next (0, omega arith, f.0)
+  pub output_name_is : output_name net ≡ h.output
+  output_name_is = ap (λ (xs : List Text). slice_index_or xs 0 []) output_names_are
 
--- the input is used
-pub chain-uses : (c : Chain) → IsChain c → IsUsed (module_of c) c.input
-chain-uses c h =
-    used-from (module_of c) c.input c.statements h.follows (λ e k. k) (IsUsed.output (last_net c.input c.statements) (0, omega arith, sym h.ends))
+  -- the input is used
+  pub chain-uses : IsUsed net 0
+  chain-uses =
+      let way = reaches net.drivers h.from k h.leads in
+      record {
+        source = way.0;
+        driven = way.1;
+        output = h.from;
+        is_output = subst (λ (xs : List ℕ). Contains xs h.from) (sym output_nets_are) (0, omega arith, refl);
+        reaches = way.2;
+      }
+
+  -- what the output has in a valuation
+  pub chain-value : (bits values : List Bool) → IsNetValuation net.drivers bits values → output_values net values ≡ inverted k (value_of bits 0) ∷ []
+  chain-value bits values is =
+      ap (map (value_of values)) output_nets_are ∙ ap (λ (b : Bool). b ∷ []) (walk_value net.drivers bits values is h.from k h.leads)
+
+pub one_number : (net : Netlist) (j k : ℕ) → IsChain net j → IsChain net k → j ≡ k
+one_number net j k a b =
+    let same : b.from ∷ [] ≡ a.from ∷ [] = sym (output_nets_are net k b) ∙ output_nets_are net j a in
+    let from : b.from ≡ a.from = cc in
+    one_count net.drivers a.from j k a.leads (subst (λ (n : ℕ). LeadsToInput net.drivers n k) from b.leads)

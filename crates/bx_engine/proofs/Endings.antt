@@ -1,17 +1,15 @@
 -- A text that was said and handed on, and what the end of a run says then.
-use Rattle.std.proofs.Common.{◌≡◌, ℕ, List, [], ◌∷◌, ◌++◌, ◌≤◌, Option, Result, Ok, Err, sym, ◌∙◌, subst, arith}
+use Rattle.std.proofs.Common.{◌≡◌, ℕ, List, [], ◌++◌, ◌≤◌, Option, Result, Ok, Err, sym, ◌∙◌, subst, arith}
 use Rattle.std.proofs.lemmas.List.{append-nil}
-use Rattle.std.specs.Prelude.{codes, OnOk, OnErr}
+use Rattle.std.specs.Prelude.{OnOk, OnErr}
 use Rattle.bx_desk.specs.Desk.{Files, Counts, Rose, Adds, AddsUpTo}
 use Rattle.bx_desk.specs.Pieces.{HandsOn}
 use Rattle.bx_desk.specs.declared.desk.Failed.{Failed}
 use Rattle.bx_desk.proofs.Said.{adds_piece, adds_front}
-use Rattle.bx_syntax.specs.Module.{Text}
 use Rattle.bx_engine.specs.declared.status.Status.{Status}
 use Rattle.bx_engine.specs.declared.status.Status.TheVariants.{WriteFault}
 use Rattle.bx_engine.specs.declared.status.Which.TheVariants.{Output}
 use Rattle.bx_engine.specs.Says.{Says}
-use Rattle.bx_engine.specs.Texts.{spaced, refusal_text}
 use Rattle.bx_engine.specs.Endings.{Ends, done, failed, EndsSaying}
 
 -- all of the text was said
@@ -47,8 +45,3 @@ module _ {D : Type 0} (files : D → Option Files) (said : D → Option (List �
   -- the same status in another shape
   pub ends_as : (old new : D) (result status other : Status) (text : List ℕ) → status ≡ other → EndsSaying files said faults old new result status text → EndsSaying files said faults old new result other text
   ends_as old new result status other text e h = subst (λ (s : Status). EndsSaying files said faults old new result s text) e h
-
--- the line of a refusal
-pub refusal_is : (fault : Text) → spaced (codes "refused") (fault ∷ []) ++ 10 ∷ [] ≡ refusal_text fault
-unfolding refusal_text
-refusal_is fault = sym (append-nil (spaced (codes "refused") (fault ∷ []) ++ 10 ∷ []))

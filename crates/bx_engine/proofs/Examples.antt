@@ -1,19 +1,21 @@
 -- The small grids that the laws speak of.
 use Rattle.std.proofs.Common.{◌≡◌, ℕ, zero, suc, ◌+◌, ◌<◌, Bool, true, false, not, get_or, None, refl, sym, ◌∙◌, ap, subst, arith, inl, inr}
 use Rattle.std.specs.Prelude.{◌&&◌, ◌==◌, ◌≢◌, if◌then◌else◌, List, IsTrue, IsSome, ◌⊎◌, ⊤}
-use Rattle.std.proofs.lemmas.Bool.{cases_eq}
+use Rattle.std.specs.Str.{bytes_eq}
+use Rattle.std.proofs.lemmas.Bool.{cases_eq, false_from_ne_true}
+use Rattle.std.proofs.lemmas.Slice.Eq.{bytes_eq-Decides}
 use Rattle.std.proofs.lemmas.List.{get_or-take}
 use Rattle.bx_engine.specs.declared.forms.Kind.TheVariants.{Input, Output}
 use Rattle.bx_engine.specs.declared.forms.Side.{Side}
 use Rattle.bx_engine.specs.declared.forms.Side.TheVariants.{Left, Right}
-use Rattle.bx_syntax.specs.Module.{Text, Assignment, Gives}
+use Rattle.bx_verilog.specs.Formulas.{Text}
+use Rattle.bx_verilog.specs.Equations.{Assignment, Gives}
 use Rattle.bx_engine.specs.Forms.{opposite, shape_holds}
 use Rattle.bx_engine.specs.Tiles.{y_of, above, below, border}
 use Rattle.bx_engine.specs.Grids.{shape_in, takes, sends, sends_from, Holds, IsEmpty, IsSound, sent, IsBorderValuation, IsOnlyBorderValuation, Computes, FormGrid, given_at}
 use Rattle.bx_engine.specs.Columns.{column, column_tiles}
 use Rattle.bx_engine.specs.Examples.{wired, cut_short, negation, three_row_pins, conjoined, conjoined_borders, conjoined_pins, conjunction_of}
 use Rattle.bx_engine.proofs.Valuations.{only-valuation}
-use Rattle.bx_engine.proofs.Chains.{update, update-same, update-other}
 use Rattle.bx_engine.proofs.FormTable.{at-sides}
 use Rattle.bx_engine.proofs.Columns.{tile-column, output-only}
 
@@ -78,6 +80,18 @@ pub conjoined-valuation : (a b : Bool) → IsOnlyBorderValuation conjoined (λ t
 conjoined-valuation a b =
     let given : ℕ → Bool = λ tile. if tile == 0 then a else b in
     only-this conjoined given (conjoined_borders a b) (conjoined-meets_forms given)
+
+-- a with another value for one name
+update : Assignment → Text → Bool → Assignment
+update a x b name = if bytes_eq name x then b else a name
+
+update-same : (a : Assignment) (x : Text) (b : Bool) → update a x b x ≡ b
+unfolding update
+update-same a x b = ap (λ t. if t then b else a x) ((bytes_eq-Decides x x).1 refl)
+
+update-other : (a : Assignment) (x : Text) (b : Bool) (name : Text) → x ≢ name → update a x b name ≡ a name
+unfolding update
+update-other a x b name ne = ap (λ t. if t then b else a name) (false_from_ne_true (bytes_eq name x) (λ e. ne (sym ((bytes_eq-Decides name x).0 e))))
 
 conjunction-gives : (one two output : Text) → one ≢ output → two ≢ output → (a : Assignment) →
     Gives (conjunction_of one two output) a output (a one && a two)

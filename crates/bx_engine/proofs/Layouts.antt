@@ -1,32 +1,36 @@
--- The column of a chain computes the module of the chain.
-use Rattle.std.proofs.Common.{ℕ, ◌+◌, Bool, List, [], inl, refl, sym, subst, arith}
-use Rattle.bx_syntax.specs.Module.{Gives}
-use Rattle.bx_syntax.specs.Chain.{Chain, IsChain, inversions, module_of}
+-- The column of a chain has the chain's ports, and computes what gives its output the input's value
+-- inverted as many times.
+use Rattle.std.proofs.Common.{ℕ, ◌+◌, Bool, List, [], ◌∷◌, inl, refl, sym, ◌∙◌, ap, subst, arith}
+use Rattle.bx_logic.specs.Nets.{Netlist}
+use Rattle.bx_verilog.specs.Formulas.{Text}
+use Rattle.bx_verilog.specs.Equations.{Module, Assignment, Gives}
 use Rattle.bx_engine.specs.Tiles.{tile_count}
-use Rattle.bx_engine.specs.Grids.{given_at, Computes, ArePins}
+use Rattle.bx_engine.specs.Grids.{given_at, Computes, AreUsed, ArePins}
+use Rattle.bx_engine.specs.Chains.{IsChain, input_name, output_name}
+use Rattle.bx_engine.specs.ChainNetworks.{inverted}
 use Rattle.bx_engine.specs.Columns.{column, column_pins}
 use Rattle.bx_engine.proofs.Valuations.{made, only-valuation}
-use Rattle.bx_engine.proofs.Chains.{chain-gives, chain-uses}
+use Rattle.bx_engine.proofs.Chains.{chain-uses, input_name_is, output_names_are, output_name_is}
 use Rattle.bx_engine.proofs.Columns.{output-value, input-only, output-only, holds-first, holds-last, y_of-column}
 
-pub column-computes : (c : Chain) → IsChain c → Computes (column (inversions c.statements)) (column_pins c) (module_of c)
-column-computes c h a =
-    let k : ℕ = inversions c.statements in
-    let given : ℕ → Bool = given_at (column_pins c).inputs a in
+pub column-computes : (net : Netlist) (m : Module) (k : ℕ) → ((a : Assignment) → Gives m a (output_name net) (inverted k (a (input_name net)))) →
+    Computes (column k) (column_pins net k) m
+column-computes net m k gives a =
+    let given : ℕ → Bool = given_at (column_pins net k).inputs a in
     let bs : List Bool = made (column k) given (tile_count (column k).ratio) in
     let v = only-valuation (column k) given in
     record {
       borders = bs;
       valuation = v;
-      outputs = (subst (λ (b : Bool). Gives (module_of c) a c.output b) (sym (output-value k (k + 1) given bs refl v.is)) (chain-gives c h a), tt);
+      outputs = (subst (λ (b : Bool). Gives m a (output_name net) b) (sym (output-value k (k + 1) given bs refl v.is)) (gives a), tt);
     }
 
-pub column-pins : (c : Chain) → IsChain c → ArePins (column (inversions c.statements)) (module_of c) (column_pins c)
-column-pins c h =
-    let k : ℕ = inversions c.statements in
+pub column-pins : (net : Netlist) (k : ℕ) → IsChain net k → ArePins (column k) net (column_pins net k)
+column-pins net k h =
+    let alone : Text → List Text = λ name. name ∷ [] in
     record {
-      inputs = inl ([], chain-uses c h, refl, refl);
-      outputs = refl;
+      inputs = subst (λ (xs : List Text). AreUsed net 0 xs (input_name net ∷ [])) (sym h.one_input) (inl ([], chain-uses net k h, ap alone (input_name_is net k h), refl));
+      outputs = ap alone (output_name_is net k h) ∙ sym (output_names_are net k h);
       first = ((omega arith, y_of-column k 0, holds-first k), tt);
       last = ((omega arith, (let y = y_of-column k (k + 1) in omega arith), holds-last k (k + 1) refl), tt);
       apart = (((λ q. omega arith), tt), (tt, tt));

@@ -1,8 +1,11 @@
 pub mod Table
 pub mod Valuations
 pub mod Chains
+pub mod Walks
 pub mod Columns
 pub mod Layouts
+pub mod Meanings
+pub mod Modules
 pub mod Pins
 pub mod Ascending
 pub mod BranchingNetworks
@@ -18,11 +21,13 @@ pub mod FormTable
 pub mod Tiles
 pub mod Flow
 pub mod Endings
+pub mod Designs
 pub mod Serving
 pub mod Clauses
+pub mod Readings
 pub mod Answers
-pub mod Meanings
 pub mod Spellings
 pub mod PlainTexts
+pub mod PlainNames
 pub mod FormNames
 pub mod Reports

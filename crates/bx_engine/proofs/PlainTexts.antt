@@ -4,7 +4,7 @@ use Rattle.std.specs.Prelude.{◌≢◌, ◌==◌, ◌&&◌, not, decimal, if◌
 use Rattle.std.specs.List.{list_all}
 use Rattle.std.specs.Fmt.{digits, digits_onto, digit_glyph}
 use Rattle.std.proofs.lemmas.Bool.{and_parts}
-use Rattle.bx_syntax.specs.Module.{Text}
+use Rattle.bx_verilog.specs.Formulas.{Text}
 use Rattle.bx_engine.specs.Texts.{IsPlain}
 
 glyph-plain : (b : Bool) (d : ℕ) → ((if b then 48 + d else 87 + d) ≢ 32) × ((if b then 48 + d else 87 + d) ≢ 10)

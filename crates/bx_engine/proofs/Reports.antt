@@ -1,15 +1,17 @@
 -- A report is that of one layout.
-use Rattle.std.proofs.Common.{◌≡◌, ℕ, zero, suc, ◌+◌, ◌*◌, ◌/◌, ◌%◌, ◌<◌, ◌^◌, true, false, List, [], ◌∷◌, ◌++◌, length, map, take, drop, get_or, Option, Some, None, refl, sym, ap, subst, ◌∙◌, append_assoc, arith}
-use Rattle.std.specs.Prelude.{◌≢◌, IsTrue, codes, decimal}
+use Rattle.std.proofs.Common.{◌≡◌, ℕ, zero, suc, ◌+◌, ◌*◌, ◌/◌, ◌%◌, ◌<◌, ◌^◌, List, [], ◌∷◌, ◌++◌, length, map, take, drop, get_or, Option, Some, None, refl, sym, ap, subst, ◌∙◌, append_assoc, arith}
+use Rattle.std.specs.Prelude.{◌≢◌, codes, decimal, slice_index_or}
 use Rattle.std.specs.List.{AllByRecursion, range_with_len}
 use Rattle.std.proofs.lemmas.Fmt.{decimal_injective}
 use Rattle.std.proofs.lemmas.List.{map-append, ext_get_or, get_or-take, get_or-drop}
 use Rattle.std.proofs.lemmas.List.FromFn.{get_or-map-range_with_len}
 use Rattle.std.proofs.lemmas.Nat.{div-add-mod', rows}
-use Rattle.std.specs.Char.{is_ascii_alphanumeric}
-use Rattle.bx_syntax.specs.Module.{Text}
-use Rattle.bx_syntax.specs.Chain.{Chain, IsChain, IsName, inversions}
-use Rattle.bx_syntax.proofs.Whole.{ports_named}
+use Rattle.bx_logic.specs.Nets.{output_names}
+use Rattle.bx_syntax.specs.Parts.{ModuleTree}
+use Rattle.bx_verilog.specs.Formulas.{Text}
+use Rattle.bx_verilog.specs.Mentions.{inputs, outputs, number}
+use Rattle.bx_verilog.specs.Elaboration.{net_of}
+use Rattle.bx_engine.specs.Runs.{IsLaidOut}
 use Rattle.bx_engine.specs.Columns.{column, column_pins}
 use Rattle.bx_engine.proofs.Columns.{column-whole}
 use Rattle.bx_engine.specs.declared.grid.Ratio.{Ratio}
@@ -18,8 +20,9 @@ use Rattle.bx_engine.specs.Rows.{row_tiles}
 use Rattle.bx_engine.specs.Grids.{FormGrid, IsFormGrid, Pin, Pins}
 use Rattle.bx_engine.specs.Networks.{Network}
 use Rattle.bx_engine.specs.Texts.{lines_text, pin_line, row_line, tile_name, IsPlain, IsReportable, report_text, refusal_text}
-use Rattle.bx_engine.proofs.Spellings.{Line, line, line_text, first_word, IsPlainLine, each_map, each_append, each_of, map_once, lines_once, part_once}
+use Rattle.bx_engine.proofs.Spellings.{Line, line, line_text, first_word, IsPlainLine, each_map, each_append, map_once, lines_once, part_once}
 use Rattle.bx_engine.proofs.PlainTexts.{decimal-plain, plain-tested}
+use Rattle.bx_engine.proofs.PlainNames.{module_name_plain, inputs_plain, outputs_plain}
 use Rattle.bx_engine.proofs.FormNames.{IsFormTile, tile-plain, tile-once}
 
 -- a port's line
@@ -222,23 +225,25 @@ pub no_report : (fault name : Text) (N : Network) (g : FormGrid) (pins : Pins) �
 unfolding refusal_text report_text
 no_report fault name N g pins e = let first : get_or (codes "refused") 0 0 ≡ get_or (codes "module") 0 0 = ap (λ (text : Text). get_or text 0 0) e in absurd (omega arith)
 
-letter-plain : (byte : ℕ) → IsTrue (is_ascii_alphanumeric byte) → (byte ≢ 32) × (byte ≢ 10)
-letter-plain byte h = (other 32 refl, other 10 refl)
-  where
-    other : (stop : ℕ) → is_ascii_alphanumeric stop ≡ false → byte ≢ stop
-    other stop none e = let lost : false ≡ true = sym none ∙ ap is_ascii_alphanumeric (sym e) ∙ h in cc
+first_plain : (names : List Text) → AllByRecursion IsPlain names → IsPlain (slice_index_or names 0 [])
+first_plain [] p = tt
+first_plain (name ∷ names) p = p.0
 
-name-plain : (name : Text) → IsName name → IsPlain name
-name-plain name is = each_of (λ byte. IsTrue (is_ascii_alphanumeric byte)) (λ byte. (byte ≢ 32) × (byte ≢ 10)) letter-plain name is.each
+-- the names of the outputs of a module's net are those of the module
+output_names_once : (m : ModuleTree) → output_names (net_of m) ≡ outputs m
+output_names_once m = once (outputs m) where
+  once : (names : List Text) → map (λ (x : Text × ℕ). x.0) (map {B = Text × ℕ} (λ name. (name, number m name)) names) ≡ names
+  once [] = refl
+  once (name ∷ names) = ap (λ (xs : List Text). name ∷ xs) (once names)
 
-pub column-reportable : (c : Chain) → IsChain c → IsReportable c.name (column (inversions c.statements)) (column_pins c)
-column-reportable c is =
-    let names = ports_named c is in
+pub column-reportable : (text : Text) (m : ModuleTree) (k : ℕ) → IsLaidOut text m k → IsReportable m.name (column k) (column_pins (net_of m) k)
+column-reportable text m k is =
+    let names = output_names_once m in
     record {
-      plain = name-plain c.name is.name;
-      grid = column-whole (inversions c.statements);
+      plain = module_name_plain text m is.is_text;
+      grid = column-whole k;
       width = omega arith;
-      height = omega (arith, is.few);
-      inputs = ((name-plain c.input is.input, omega arith), tt);
-      outputs = ((name-plain c.output names.of_output, omega arith), tt);
+      height = omega (arith, is.chain.few);
+      inputs = ((first_plain (inputs m) (inputs_plain text m is.is_text), omega arith), tt);
+      outputs = ((subst (λ (xs : List Text). IsPlain (slice_index_or xs 0 [])) (sym names) (first_plain (outputs m) (outputs_plain text m is.is_text)), omega arith), tt);
     }

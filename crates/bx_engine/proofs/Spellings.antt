@@ -3,7 +3,7 @@ use Rattle.std.proofs.Common.{◌≡◌, ℕ, List, [], ◌∷◌, ◌++◌, map
 use Rattle.std.specs.Prelude.{◌≢◌}
 use Rattle.std.specs.List.{AllByRecursion, flat_map}
 use Rattle.std.proofs.lemmas.List.{append-nil}
-use Rattle.bx_syntax.specs.Module.{Text}
+use Rattle.bx_verilog.specs.Formulas.{Text}
 use Rattle.bx_engine.specs.Texts.{spaced, lines_text, IsPlain}
 
 -- no byte of the text is this one

@@ -1,7 +1,8 @@
 -- The layout of a chain in one column: its input, a tile for each inversion, its output.
 use Rattle.std.specs.Prelude.{◌==◌, ℕ, ◌+◌, if◌then◌else◌, nat_le, List, [], ◌∷◌, map, Option, Some}
 use Rattle.std.specs.List.{range_with_len}
-use Rattle.bx_syntax.specs.Chain.{Chain, inversions}
+use Rattle.bx_logic.specs.Nets.{Netlist}
+use Rattle.bx_engine.specs.Chains.{input_name, output_name}
 use Rattle.bx_engine.specs.Tiles.{is_odd}
 use Rattle.bx_engine.specs.Grids.{FormGrid, Pins}
 
@@ -34,9 +35,9 @@ column_tiles k = map (λ y. Some (column_form k y)) (range_with_len 0 (k + 2))
 abbrev pub column : ℕ → FormGrid
 column k = record { ratio = record { w = 1; h = k + 2 }; tiles = column_tiles k }
 
--- the first tile for the input, and the last for the output
-abbrev pub column_pins : Chain → Pins
-column_pins c = record {
-  inputs = record { name = c.input; tile = 0 } ∷ [];
-  outputs = record { name = c.output; tile = inversions c.statements + 1 } ∷ [];
+-- the first tile for the input of the net, and the last for its output
+abbrev pub column_pins : Netlist → ℕ → Pins
+column_pins net k = record {
+  inputs = record { name = input_name net; tile = 0 } ∷ [];
+  outputs = record { name = output_name net; tile = k + 1 } ∷ [];
 }

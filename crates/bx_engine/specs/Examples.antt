@@ -1,8 +1,10 @@
 -- Small grids that the laws speak of: one that is right, and some that are nearly so.
 use Rattle.std.specs.Prelude.{◌≡◌, ◌&&◌, ℕ, ◌+◌, Bool, false, List, [], ◌∷◌, Some, None, take}
 use Rattle.bx_logic.specs.declared.op.Op.TheVariants.{Not, And}
-use Rattle.bx_syntax.specs.Module.{Text, Module}
-use Rattle.bx_syntax.specs.Chain.{Chain, inversions}
+use Rattle.bx_logic.specs.Nets.{Netlist}
+use Rattle.bx_verilog.specs.Formulas.{Text, named}
+use Rattle.bx_verilog.specs.Equations.{Module}
+use Rattle.bx_engine.specs.Chains.{input_name, output_name}
 use Rattle.bx_engine.specs.Grids.{FormGrid, Pins, reads}
 use Rattle.bx_engine.specs.Columns.{input_r, output_l, output_r, not_ll, column_tiles}
 
@@ -52,7 +54,7 @@ abbrev pub negation : Text → Text → Module
 negation input output = record {
   inputs = input ∷ [];
   outputs = output ∷ [];
-  equations = record { target = output; op = Not; reads = input ∷ [] } ∷ [];
+  equations = record { target = output; op = Not; arguments = named input ∷ [] } ∷ [];
 }
 
 abbrev pub three_row_pins : Text → Text → Pins
@@ -62,10 +64,10 @@ three_row_pins input output = record {
 }
 
 -- the pins of a chain's column, the tiles exchanged
-abbrev pub exchanged_pins : Chain → Pins
-exchanged_pins c = record {
-  inputs = record { name = c.input; tile = inversions c.statements + 1 } ∷ [];
-  outputs = record { name = c.output; tile = 0 } ∷ [];
+abbrev pub exchanged_pins : Netlist → ℕ → Pins
+exchanged_pins net k = record {
+  inputs = record { name = input_name net; tile = k + 1 } ∷ [];
+  outputs = record { name = output_name net; tile = 0 } ∷ [];
 }
 
 -- two inputs and an `and`, in two columns of three rows, with this output
@@ -99,7 +101,7 @@ abbrev pub conjunction_of : Text → Text → Text → Module
 conjunction_of one two output = record {
   inputs = one ∷ two ∷ [];
   outputs = output ∷ [];
-  equations = record { target = output; op = And; reads = one ∷ two ∷ [] } ∷ [];
+  equations = record { target = output; op = And; arguments = named one ∷ named two ∷ [] } ∷ [];
 }
 
 -- two inputs, this form below both, and two outputs below it, in two columns of three rows

@@ -3,7 +3,10 @@ use Rattle.std.specs.Prelude.{◌≡◌, ◌==◌, ℕ, ◌+◌, ◌*◌, ◌<�
 use Rattle.std.specs.List.{AllByRecursion}
 use Rattle.bx_logic.specs.Op.{first_value}
 use Rattle.bx_logic.specs.Lists.{AreDistinct}
-use Rattle.bx_syntax.specs.Module.{Text, Equation, Module, Assignment, Gives}
+use Rattle.bx_logic.specs.declared.driver.Driver.TheVariants.{Input as InputDriver}
+use Rattle.bx_logic.specs.Nets.{Netlist, driver_at, output_names, output_nets, DependsOn}
+use Rattle.bx_verilog.specs.Formulas.{Text}
+use Rattle.bx_verilog.specs.Equations.{Module, Assignment, Gives}
 use Rattle.bx_engine.specs.declared.grid.Ratio.{Ratio}
 use Rattle.bx_engine.specs.declared.forms.Kind.{Kind}
 use Rattle.bx_engine.specs.declared.forms.Kind.TheVariants.{Input, Output}
@@ -122,24 +125,28 @@ pin_names pins = map (λ pin. pin.name) pins
 abbrev pub pin_tiles : List Pin → List ℕ
 pin_tiles pins = map (λ pin. pin.tile) pins
 
--- the value of the net is read on the way to an output. That is the use of a net in modules without
--- constants, which are all that is read today: beside a constant a value can be read and count for nothing
-pub data IsUsed (m : Module) : Text → Type 0 where
-  output : (net : Text) → Contains m.outputs net → IsUsed m net
-  read : (net : Text) (e : Equation) → Contains m.equations e → IsUsed m e.target → Contains e.reads net → IsUsed m net
+-- An output has the net that this input drives, or its net depends on that one. Beside a constant a value
+-- can be read and count for nothing, and the input is used all the same: that an input counts comes with
+-- the mapping.
+pub record IsUsed (net : Netlist) (i : ℕ) : Type 0 where
+  pub source : ℕ
+  pub driven : driver_at net.drivers source ≡ InputDriver i
+  pub output : ℕ
+  pub is_output : Contains (output_nets net) output
+  pub reaches : (output ≡ source) ⊎ DependsOn net.drivers output source
 
--- the names are those of the used ones of these inputs, in their order: each once, where no two inputs
--- have the same name
-abbrev pub AreUsed : Module → List Text → List Text → Type 0
-AreUsed m [] names = names ≡ []
-AreUsed m (input ∷ inputs) names =
-    ((rest : List Text) × IsUsed m input × (names ≡ input ∷ rest) × AreUsed m inputs rest)
-    ⊎ ((¬ IsUsed m input) × AreUsed m inputs names)
+-- the names are those of the used ones of these inputs, of which the first has number i, in their order:
+-- each once, where no two inputs have the same name
+abbrev pub AreUsed : Netlist → ℕ → List Text → List Text → Type 0
+AreUsed net i [] names = names ≡ []
+AreUsed net i (input ∷ inputs) names =
+    ((rest : List Text) × IsUsed net i × (names ≡ input ∷ rest) × AreUsed net (i + 1) inputs rest)
+    ⊎ ((¬ IsUsed net i) × AreUsed net (i + 1) inputs names)
 
-pub record ArePins (g : FormGrid) (m : Module) (pins : Pins) : Type 0 where
+pub record ArePins (g : FormGrid) (net : Netlist) (pins : Pins) : Type 0 where
   -- one tile of the first row for each used input, and one of the last row for each output
-  pub inputs : AreUsed m m.inputs (pin_names pins.inputs)
-  pub outputs : pin_names pins.outputs ≡ m.outputs
+  pub inputs : AreUsed net 0 net.inputs (pin_names pins.inputs)
+  pub outputs : pin_names pins.outputs ≡ output_names net
   pub first : AllByRecursion (λ t. IsTile g t × IsInFirstRow g t × Holds g t Input) (pin_tiles pins.inputs)
   pub last : AllByRecursion (λ t. IsTile g t × IsInLastRow g t × Holds g t Output) (pin_tiles pins.outputs)
   pub apart : AreDistinct (pin_tiles pins.inputs ++ pin_tiles pins.outputs)

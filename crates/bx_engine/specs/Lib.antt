@@ -1,4 +1,5 @@
 pub mod BranchingNetworks
+pub mod Chains
 pub mod ChainNetworks
 pub mod Columns
 pub mod Counts
@@ -8,6 +9,7 @@ pub mod Networks
 pub mod Orders
 pub mod Statuses
 pub mod Texts
+pub mod Walks
 pub mod Words
 pub mod Says
 pub mod Tiles

@@ -1,6 +1,6 @@
 -- What a mapped network means for the module that it came from.
 use Rattle.std.specs.Prelude.{◌≡◌, ℕ, Bool, [], slice_get, slice_index_or, Some}
-use Rattle.bx_syntax.specs.Module.{Module, Assignment, Gives}
+use Rattle.bx_verilog.specs.Equations.{Module, Assignment, Gives}
 use Rattle.bx_engine.specs.declared.forms.Kind.TheVariants.{Output}
 use Rattle.bx_engine.specs.Networks.{Node, Network, IsValuation}
 

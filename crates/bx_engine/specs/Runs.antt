@@ -1,22 +1,34 @@
--- What a run is told: its words, and the text that the desk tells to be the file that they name.
-use Rattle.std.specs.Prelude.{◌≡◌, List, [], ◌∷◌, codes, Option, Some, None, IsSome, IfSome, option_and_then, if◌then◌else◌, String, string_bytes}
+-- What a run is told: its words, and the text that the desk tells to be the file that they name. And what
+-- that text gives: a refusal, or a layout.
+use Rattle.std.specs.Prelude.{◌≡◌, ◌≢◌, ℕ, ◌<◌, ◌≤◌, List, [], ◌∷◌, codes, length, ◌⊎◌, Option, Some, None, IsSome, IfSome, option_and_then, if◌then◌else◌, String, string_bytes, ⊤}
 use Rattle.std.specs.Str.{bytes_eq}
+use Rattle.bx_logic.specs.Nets.{Netlist}
 use Rattle.bx_desk.specs.Desk.{Files}
-use Rattle.bx_syntax.specs.Module.{Text, Module}
-use Rattle.bx_syntax.specs.Chain.{Chain, IsChain, spelling, inversions}
+use Rattle.bx_lex.specs.Tokens.{TokenList, HasTokens, HasFault}
+use Rattle.bx_syntax.specs.declared.fault.ReadFault.TheVariants.{NoMemory}
+use Rattle.bx_syntax.specs.Parts.{ModuleTree}
+use Rattle.bx_syntax.specs.Terminals.{terminals_of}
+use Rattle.bx_syntax.specs.Grammar.{IsModule}
+use Rattle.bx_verilog.specs.Formulas.{Text}
+use Rattle.bx_verilog.specs.Faults.{IsAccepted, IsFault}
+use Rattle.bx_verilog.specs.Equations.{Module}
+use Rattle.bx_verilog.specs.Elaboration.{net_of}
 use Rattle.bx_engine.specs.declared.grid.Ratio.{Ratio}
 use Rattle.bx_engine.specs.declared.grid.TheConstants.{DEFAULT_LIMITS}
+use Rattle.bx_engine.specs.Chains.{IsChain}
 use Rattle.bx_engine.specs.Grids.{FormGrid, Pins, IsFormGrid, IsSound, ArePins, Computes}
 use Rattle.bx_engine.specs.Networks.{Network, IsNetwork}
 use Rattle.bx_engine.specs.Meanings.{NetworkComputes}
-use Rattle.bx_engine.specs.ChainNetworks.{chain_network}
-use Rattle.bx_engine.specs.Columns.{column, column_pins}
+use Rattle.bx_engine.specs.Columns.{column}
 use Rattle.bx_engine.specs.Counts.{EachEarlierIsLate}
 use Rattle.bx_engine.specs.declared.status.Status.{Status}
 use Rattle.bx_engine.specs.declared.status.Status.TheVariants.{Words, Refused, Found}
-use Rattle.bx_engine.specs.declared.status.InputFault.TheVariants.{NotBuilt}
+use Rattle.bx_engine.specs.declared.status.InputFault.{InputFault}
+use Rattle.bx_engine.specs.declared.status.InputFault.TheVariants.{TooLong, Lex, Read, Net, NotBuilt}
 use Rattle.bx_engine.specs.declared.status.WordFault.TheVariants.{Command}
+use Rattle.bx_engine.specs.declared.status.Which.TheVariants.{NetFile}
 use Rattle.bx_engine.specs.Texts.{report_text, refusal_text, word_fault_text, input_fault_text}
+use Rattle.bx_engine.specs.Reports.{report_of}
 
 -- the file that the words name: `design` and a file, and nothing else
 module _ {A : Type 0} where
@@ -28,33 +40,65 @@ module _ {A : Type 0} where
   abbrev pub net_text : List (String A) → Option Files → Option Text
   net_text words told = option_and_then (λ net. option_and_then (λ files. files net) told) (net_word words)
 
--- the mapped network, the layout, its pins and the report of a chain
-abbrev pub network_of : Chain → Network
-network_of c = chain_network (inversions c.statements)
+-- a text that isn't too long to be read
+abbrev pub IsShort : Text → Type 0
+IsShort text = length text ≤ 1048576
 
-abbrev pub layout_of : Chain → FormGrid
-layout_of c = column (inversions c.statements)
+-- the text of a module: its tokens are in the grammar with this tree, and nothing nests deeper than 256
+pub record IsText (text : Text) (m : ModuleTree) : Type 0 where
+  pub found : TokenList
+  pub tokens : HasTokens text found
+  pub is_module : IsModule 256 m (terminals_of text found.tokens)
 
-abbrev pub report_of : Chain → Text
-report_of c = report_text c.name (network_of c) (layout_of c) (column_pins c)
+-- a text with tokens that are no module's, or nest too deep
+pub record IsNoModule (text : Text) : Type 0 where
+  pub found : TokenList
+  pub tokens : HasTokens text found
+  pub no_module : (m : ModuleTree) → IsModule 256 m (terminals_of text found.tokens) → ⊥
+
+-- the text of a module that is accepted, and whose net is no chain
+pub record IsNotBuilt (text : Text) : Type 0 where
+  pub tree : ModuleTree
+  pub is_text : IsText text tree
+  pub accepted : IsAccepted tree
+  pub no_chain : (inversions : ℕ) → IsChain (net_of tree) inversions → ⊥
+
+-- the text is refused for this; which fault of reading it is, isn't claimed
+abbrev pub IsRefused : Text → InputFault → Type 0
+IsRefused text (TooLong which) = (which ≡ NetFile) × (1048576 < length text)
+IsRefused text (Lex fault) = IsShort text × HasFault text fault
+IsRefused text (Read fault) = IsShort text × IsNoModule text × (fault ≢ NoMemory)
+IsRefused text (Net fault) = IsShort text × ((m : ModuleTree) × IsText text m × IsFault m fault)
+IsRefused text NotBuilt = IsShort text × IsNotBuilt text
+
+-- the text is laid out: that of an accepted module whose net is a chain of so many inversions
+pub record IsLaidOut (text : Text) (m : ModuleTree) (inversions : ℕ) : Type 0 where
+  pub short : IsShort text
+  pub is_text : IsText text m
+  pub accepted : IsAccepted m
+  pub chain : IsChain (net_of m) inversions
+
+-- a fault of reading; two such faults are alike, and any other fault is like itself alone
+abbrev pub IsRead : InputFault → Type 0
+IsRead (Read fault) = ⊤
+IsRead _ = ⊥
+
+abbrev pub AreAlike : InputFault → InputFault → Type 0
+AreAlike f g = (f ≡ g) ⊎ (IsRead f × IsRead g)
 
 -- a layout that a report prints, and what it is worth
-pub record IsLayout (name : Text) (m : Module) (N : Network) (ratio : Ratio) (report : Text) : Type 0 where
+pub record IsLayout (net : Netlist) (m : Module) (N : Network) (ratio : Ratio) (report : Text) : Type 0 where
   pub grid : FormGrid
   pub pins : Pins
-  pub printed : report ≡ report_text name N grid pins
+  pub printed : report ≡ report_text net.name N grid pins
   pub sides : grid.ratio ≡ ratio
   pub whole : IsFormGrid grid
   pub sound : IsSound grid
-  pub ports : ArePins grid m pins
+  pub ports : ArePins grid net pins
   pub computes : Computes grid pins m
   pub network : IsNetwork N
   pub meaning : NetworkComputes N m
   pub least : EachEarlierIsLate DEFAULT_LIMITS N ratio
-
--- the file isn't of the form that is laid out, as far as the desk tells
-abbrev pub IsOfNoForm : {A : Type 0} → List (String A) → Option Files → Type 0
-IsOfNoForm words told = (c : Chain) → IsChain c → net_text words told ≡ Some (spelling c) → ⊥
 
 -- the file has this text, as far as the desk tells
 abbrev pub HasText : {A : Type 0} → List (String A) → Option Files → Text → Type 0
@@ -67,5 +111,15 @@ IsThere told net = IfSome told (λ files. IsSome (files net))
 -- the status that the words and the file give, and what is said with it
 pub data IsAnswer {A : Type 0} (words : List (String A)) (told : Option Files) : Status → Text → Type 0 where
   no_command : net_word words ≡ None → IsAnswer words told (Words Command) (refusal_text (word_fault_text Command))
-  no_form : (net : Text) → net_word words ≡ Some net → IsThere told net → IsOfNoForm words told → IsAnswer words told (Refused NotBuilt) (refusal_text (input_fault_text NotBuilt))
-  laid_out : (net : Text) → net_word words ≡ Some net → IsThere told net → (c : Chain) → IsChain c → HasText words told (spelling c) → IsAnswer words told (Found (layout_of c).ratio) (report_of c)
+  refused : (net text : Text) (fault : InputFault) → net_word words ≡ Some net → IsThere told net → HasText words told text
+      → IsRefused text fault → IsAnswer words told (Refused fault) (refusal_text (input_fault_text fault))
+  laid_out : (net text : Text) (m : ModuleTree) (k : ℕ) → net_word words ≡ Some net → IsThere told net → HasText words told text
+      → IsLaidOut text m k → IsAnswer words told (Found (column k).ratio) (report_of (net_of m) k)
+
+-- answers that are the same, but for which fault of reading is named
+abbrev pub IsReadRefusal : Status → Type 0
+IsReadRefusal (Refused fault) = IsRead fault
+IsReadRefusal _ = ⊥
+
+abbrev pub AreAlikeAnswers : Status → Text → Status → Text → Type 0
+AreAlikeAnswers s x t y = ((s ≡ t) × (x ≡ y)) ⊎ (IsReadRefusal s × IsReadRefusal t)

@@ -1,7 +1,7 @@
 -- How a run ends, over what its desk had before it.
 use Rattle.std.specs.Prelude.{◌≡◌, ℕ, List, Option, Some, String}
 use Rattle.bx_desk.specs.Desk.{Files, Counts, Rose, Adds, AddsFront}
-use Rattle.bx_syntax.specs.Module.{Text}
+use Rattle.bx_verilog.specs.Formulas.{Text}
 use Rattle.bx_engine.specs.declared.status.Status.{Status}
 use Rattle.bx_engine.specs.declared.status.Status.TheVariants.{ReadFault, WriteFault, NoMemory}
 use Rattle.bx_engine.specs.declared.status.Which.TheVariants.{NetFile, Output}

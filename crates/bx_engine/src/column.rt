@@ -2,7 +2,7 @@
 //! It promises the column that the definitions name; that it is sound and computes the module of the
 //! chain is a law about them. What a chain is, and how a layout is printed, is left to others.
 ghost use Rattle.std.specs.Prelude.{◌≡◌, ◌≤◌, ◌+◌, ◌<◌, IfOk};
-ghost use Rattle.bx_syntax.specs.Chain.{most_inversions};
+ghost use Rattle.bx_engine.specs.Chains.{most_inversions};
 ghost use Rattle.bx_engine.specs.Columns.{column as column_of, column_form, column_tiles};
 
 use crate::forms::Form;

@@ -3,63 +3,69 @@
 //! the module is for others to prove.
 ghost use Rattle.std.specs.Prelude.{◌≡◌, ◌++◌, ◌≤◌, [], ◌∷◌, flat_map, codes, decimal, map};
 ghost use Rattle.bx_desk.specs.Pieces.{pending};
-ghost use Rattle.bx_syntax.specs.Chain.{most_inversions};
+ghost use Rattle.bx_engine.specs.Chains.{IsChain};
 ghost use Rattle.bx_engine.specs.Says.{Says};
 ghost use Rattle.bx_engine.specs.Grids.{FormGrid as Grid};
 ghost use Rattle.bx_engine.specs.Columns.{column};
 ghost use Rattle.bx_engine.specs.Texts.{spaced, tile_name};
-ghost use Rattle.bx_engine.specs.Reports.{head_text, ports_text, rows_text, report_shown};
+ghost use Rattle.bx_engine.specs.Reports.{head_text, ports_text, rows_text, report_of};
 
 use crate::forms::Form;
 use crate::grid::FormGrid;
 use crate::say::{Word, put_line, put_spaced, put_word};
 use bx_desk::{Desk, Failed, Piece};
-use bx_syntax::Chain;
+use bx_logic::Net;
 
-/// Puts out the report of a chain that is laid out in this column.
-pub fn put_report<D: Desk>(
-    chain: &Chain,
+/// Puts out the report of a net that is a chain of so many inversions and is laid out in this column.
+pub(crate) fn put_report<D: Desk>(
+    net: &Net,
+    inversions: u32,
     grid: &FormGrid,
     piece: &mut Piece,
     desk: &mut D,
 ) -> Result<(), Failed>
-    requires few { chain.now.inversions ≤ most_inversions }
-    requires laid_out { grid.now ≡ column chain.now.inversions }
-    ensures { Says D.files D.said D.faults desk.old desk.new result (pending piece.old) (pending piece.new) (report_shown chain.now) }
+    requires chain { IsChain net.now inversions }
+    requires laid_out { grid.now ≡ column inversions }
+    ensures { Says D.files D.said D.faults desk.old desk.new result (pending piece.old) (pending piece.new) (report_of net.now inversions) }
 {
-    put_head(chain, piece, desk)?;
-    put_ports(chain, piece, desk)?;
+    put_head(net, inversions, piece, desk)?;
+    put_ports(net, inversions, piece, desk)?;
     put_rows(grid, piece, desk)
 }
 
 // Puts out the module, the size of its network, and the ratio.
-fn put_head<D: Desk>(chain: &Chain, piece: &mut Piece, desk: &mut D) -> Result<(), Failed>
-    requires { chain.now.inversions ≤ most_inversions }
-    ensures { Says D.files D.said D.faults desk.old desk.new result (pending piece.old) (pending piece.new) (head_text chain.now) }
+fn put_head<D: Desk>(
+    net: &Net,
+    inversions: u32,
+    piece: &mut Piece,
+    desk: &mut D,
+) -> Result<(), Failed>
+    ensures { Says D.files D.said D.faults desk.old desk.new result (pending piece.old) (pending piece.new) (head_text net.now inversions) }
 {
-    let nodes = Word::Number(chain.inversions as u64 + 2);
-    let edges = Word::Number(chain.inversions as u64 + 1);
-    let name = Word::Text(chain.name.as_slice());
+    let nodes = Word::Number(inversions as u64 + 2);
+    let edges = Word::Number(inversions as u64 + 1);
+    let name = Word::Text(net.name().as_slice());
     put_line(b"module", &[name], piece, desk)?;
     put_line(b"nodes", &[nodes, Word::Text(b"edges"), edges], piece, desk)?;
     put_line(b"found", &[Word::Number(1), nodes], piece, desk)
 }
 
 // Puts out the ports, each with the column and the row of its tile.
-fn put_ports<D: Desk>(chain: &Chain, piece: &mut Piece, desk: &mut D) -> Result<(), Failed>
-    requires { chain.now.inversions ≤ most_inversions }
-    ensures { Says D.files D.said D.faults desk.old desk.new result (pending piece.old) (pending piece.new) (ports_text chain.now) }
+fn put_ports<D: Desk>(
+    net: &Net,
+    inversions: u32,
+    piece: &mut Piece,
+    desk: &mut D,
+) -> Result<(), Failed>
+    requires { IsChain net.now inversions }
+    ensures { Says D.files D.said D.faults desk.old desk.new result (pending piece.old) (pending piece.new) (ports_text net.now inversions) }
 {
-    let last = Word::Number(chain.inversions as u64 + 1);
-    let input = Word::Text(chain.input.as_slice());
-    let output = Word::Text(chain.output.as_slice());
-    put_line(
-        b"input",
-        &[input, Word::Number(0), Word::Number(0)],
-        piece,
-        desk,
-    )?;
-    put_line(b"output", &[output, Word::Number(0), last], piece, desk)
+    let first = Word::Number(0);
+    let last = Word::Number(inversions as u64 + 1);
+    let input = Word::Text(net.input_name(0).as_slice());
+    let output = Word::Text(net.output_name(0).as_slice());
+    put_line(b"input", &[input, first, first], piece, desk)?;
+    put_line(b"output", &[output, first, last], piece, desk)
 }
 
 // Puts out the rows of a grid.

@@ -3,9 +3,11 @@
 ghost use Rattle.std.specs.Prelude.{◌≡◌};
 
 use crate::grid::Ratio;
+use bx_lex::LexFault;
+use bx_verilog::{NetFault, ReadFault};
 
 /// How a run ended.
-#[derive(Debug, PartialEq, Eq, Drop)]
+#[derive(Debug, Drop)]
 pub enum Status {
     /// A layout was found, of this ratio, and the report was said.
     Found(Ratio),
@@ -21,10 +23,19 @@ pub enum Status {
     Words(WordFault),
 }
 
-/// What is wrong with an input.
-#[derive(Clone, Copy, Debug, PartialEq, Eq)]
+/// What is wrong with an input. A text is read in this order, and the first that is wrong is answered.
+/// Want of memory is no fault of an input, so no fault of a lower reader that stands here is that.
+#[derive(Debug, Drop)]
 pub enum InputFault {
-    /// The module isn't of a form that is laid out yet.
+    /// The file is longer than is read.
+    TooLong(Which),
+    /// The text has no tokens.
+    Lex(LexFault),
+    /// The tokens are no module, or nest too deep.
+    Read(ReadFault),
+    /// The module has no net.
+    Net(NetFault),
+    /// The net isn't of a form that is laid out yet.
     NotBuilt,
 }
 

@@ -2,10 +2,10 @@
 ghost use Rattle.std.specs.Prelude.{◌≡◌, List, [], ◌∷◌, codes, Option, Some, None, String, string_bytes};
 ghost use Rattle.std.specs.declared.alloc.Global.{Global};
 ghost use Rattle.bx_desk.specs.Desk.{Files};
-ghost use Rattle.bx_syntax.specs.Module.{Text};
+ghost use Rattle.bx_verilog.specs.Formulas.{Text};
 ghost use Rattle.bx_engine.specs.declared.status.Status.{Status};
 ghost use Rattle.bx_engine.specs.Statuses.{IsSettled};
-ghost use Rattle.bx_engine.specs.Runs.{net_word, net_text, IsAnswer};
+ghost use Rattle.bx_engine.specs.Runs.{net_word, net_text, IsAnswer, AreAlikeAnswers};
 
 /// The words `design` and a file name this file, and its text is what the desk tells of it.
 pub fn two_words_name_a_file()
@@ -13,12 +13,13 @@ pub fn two_words_name_a_file()
     ensures told { (words : List (String Global)) (files : Files) (net : Text) → net_word words ≡ Some net → net_text words (Some files) ≡ files net }
 {}
 
-/// Words that name no file have one answer, and so have words and the text of the file that they name.
+/// Words that name no file have one answer, and so have words and the text of the file that they name,
+/// but for which fault of reading a refusal names.
 pub fn an_input_has_one_answer()
     ensures words { (words : List (String Global)) (told : Option Files) (s t : Status) (x y : Text) → net_word words ≡ None
         → IsAnswer words told s x → IsAnswer words told t y → (s ≡ t) × (x ≡ y) }
     ensures text { (words : List (String Global)) (told : Option Files) (s t : Status) (x y text : Text) → net_text words told ≡ Some text
-        → IsAnswer words told s x → IsAnswer words told t y → (s ≡ t) × (x ≡ y) }
+        → IsAnswer words told s x → IsAnswer words told t y → AreAlikeAnswers s x t y }
 {}
 
 /// No answer is want of memory or a fault of reading or writing.

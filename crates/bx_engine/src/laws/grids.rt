@@ -1,10 +1,16 @@
 //! Laws about forms, grids and columns: what the table says of each form, that a grid has one
 //! valuation, that the column of a chain is sound and computes its module, and near misses that the
 //! definitions refuse. Nothing here runs.
-ghost use Rattle.std.specs.Prelude.{◌≡◌, ◌≢◌, ◌==◌, ◌<◌, ◌↔◌, ℕ, ◌+◌, ◌%◌, Bool, true, false, if◌then◌else◌, List, [], ◌∷◌, ◌++◌, replicate, codes, Contains};
+ghost use Rattle.std.specs.Prelude.{◌≡◌, ◌≢◌, ◌==◌, ◌<◌, ◌↔◌, ℕ, ◌+◌, ◌%◌, Bool, true, false, if◌then◌else◌, List, [], ◌∷◌, ◌++◌, replicate, codes, Contains, Some, slice_get};
 ghost use Rattle.bx_logic.specs.Lists.{AreDistinct};
-ghost use Rattle.bx_syntax.specs.Module.{Text, Module};
-ghost use Rattle.bx_syntax.specs.Chain.{Chain, IsChain, inversions, module_of};
+ghost use Rattle.bx_logic.specs.Nets.{Netlist};
+ghost use Rattle.bx_syntax.specs.Parts.{ModuleTree};
+ghost use Rattle.bx_syntax.specs.Texts.{IsTree};
+ghost use Rattle.bx_verilog.specs.Formulas.{Text};
+ghost use Rattle.bx_verilog.specs.Faults.{IsAccepted};
+ghost use Rattle.bx_verilog.specs.Equations.{module_of};
+ghost use Rattle.bx_verilog.specs.Elaboration.{net_of};
+ghost use Rattle.bx_engine.specs.Chains.{IsChain};
 ghost use Rattle.bx_engine.specs.declared.grid.Ratio.{Ratio};
 ghost use Rattle.bx_engine.specs.declared.forms.Side.{Side};
 ghost use Rattle.bx_engine.specs.Forms.{form_name, opposite};
@@ -46,19 +52,20 @@ pub fn a_column_is_sound()
 /// The first tile of a chain's column stands for its input, the last for its output, and no other
 /// tile for either.
 pub fn a_column_has_its_pins()
-    ensures { (c : Chain) → IsChain c → ArePins (column (inversions c.statements)) (module_of c) (column_pins c) }
+    ensures { (net : Netlist) (k : ℕ) → IsChain net k → ArePins (column k) net (column_pins net k) }
 {}
 
 /// The input pins have the names of the used inputs and no others, and each name once if no two inputs
 /// have the same.
 pub fn pins_are_named_as_the_used_inputs()
-    ensures names { (g : FormGrid) (m : Module) (pins : Pins) → ArePins g m pins → (input : Text) → Contains (pin_names pins.inputs) input ↔ (Contains m.inputs input × IsUsed m input) }
-    ensures once { (g : FormGrid) (m : Module) (pins : Pins) → ArePins g m pins → AreDistinct m.inputs → AreDistinct (pin_names pins.inputs) }
+    ensures names { (g : FormGrid) (net : Netlist) (pins : Pins) → ArePins g net pins → (input : Text) →
+        Contains (pin_names pins.inputs) input ↔ ((i : ℕ) × (slice_get net.inputs i ≡ Some input) × IsUsed net i) }
+    ensures once { (g : FormGrid) (net : Netlist) (pins : Pins) → ArePins g net pins → AreDistinct net.inputs → AreDistinct (pin_names pins.inputs) }
 {}
 
-/// The column of a chain computes the module of the chain.
+/// The column of a chain computes the module that the chain is the net of.
 pub fn a_column_computes_its_chain()
-    ensures { (c : Chain) → IsChain c → Computes (column (inversions c.statements)) (column_pins c) (module_of c) }
+    ensures { (m : ModuleTree) (k : ℕ) → IsTree m → IsAccepted m → IsChain (net_of m) k → Computes (column k) (column_pins (net_of m) k) (module_of m) }
 {}
 
 /// The table of forms is the one that is described family by family.
@@ -124,5 +131,5 @@ pub fn an_input_below_an_empty_row_is_not_sound()
 
 /// The pins of a column can't be exchanged.
 pub fn exchanged_pins_are_no_pins()
-    ensures { (c : Chain) → ArePins (column (inversions c.statements)) (module_of c) (exchanged_pins c) → ⊥ }
+    ensures { (net : Netlist) (k : ℕ) → ArePins (column k) net (exchanged_pins net k) → ⊥ }
 {}

@@ -1,8 +1,10 @@
 //! A report can be read back: what it says of a layout it says of no other, and no refusal reads as
 //! one. Nothing here runs.
-ghost use Rattle.std.specs.Prelude.{◌≡◌, ◌<◌, ◌^◌, length};
-ghost use Rattle.bx_syntax.specs.Module.{Text};
-ghost use Rattle.bx_syntax.specs.Chain.{Chain, IsChain, inversions};
+ghost use Rattle.std.specs.Prelude.{◌≡◌, ◌<◌, ◌^◌, ℕ, length};
+ghost use Rattle.bx_verilog.specs.Formulas.{Text};
+ghost use Rattle.bx_syntax.specs.Parts.{ModuleTree};
+ghost use Rattle.bx_verilog.specs.Elaboration.{net_of};
+ghost use Rattle.bx_engine.specs.Runs.{IsLaidOut};
 ghost use Rattle.bx_engine.specs.Columns.{column, column_pins};
 ghost use Rattle.bx_engine.specs.Grids.{FormGrid, Pins};
 ghost use Rattle.bx_engine.specs.Networks.{Network};
@@ -18,9 +20,9 @@ pub fn a_report_shows_one_layout()
         → report_text m M g p ≡ report_text n N h q → (length M.nodes ≡ length N.nodes) × (length M.edges ≡ length N.edges) }
 {}
 
-/// The layout of each chain is one that its report can tell from any other.
+/// Each layout of a text is one that its report can tell from any other: its names are plain.
 pub fn the_layout_of_a_chain_is_reportable()
-    ensures { (c : Chain) → IsChain c → IsReportable c.name (column (inversions c.statements)) (column_pins c) }
+    ensures { (text : Text) (m : ModuleTree) (k : ℕ) → IsLaidOut text m k → IsReportable m.name (column k) (column_pins (net_of m) k) }
 {}
 
 /// No refusal has the text of a report.

@@ -1,31 +1,31 @@
 use Rattle.std.proofs.Common.{refl, sym, subst}
-use Rattle.bx_engine.specs.declared.engine.NoLayout.{NoLayout}
-use Rattle.bx_engine.specs.declared.engine.NoLayout.TheVariants.{NotBuilt}
+use Rattle.bx_engine.specs.declared.design.NoLayout.{NoLayout}
+use Rattle.bx_engine.specs.declared.design.NoLayout.TheVariants.{Fault}
 use Rattle.bx_engine.specs.Endings.{FileEnds}
-use Rattle.bx_engine.proofs.Serving.{serves, of_no_form, laid}
-use Rattle.bx_engine.specs.Runs.{no_form, no_command}
+use Rattle.bx_engine.proofs.Serving.{serves, refused_for, laid}
+use Rattle.bx_engine.specs.Runs.{no_command}
 use Rattle.bx_engine.specs.Serves.{unread, no_memory}
 use Rattle.bx_engine.proofs.engine.serve.Goals as goal
 
 pub returns-in_default : goal.returns-in_default
 returns-in_default g c =
-    serves _ _ _ c.args.desk.now c.args.desk.now c.refuse.new.desk c.args.words.now _ _ _ (no_command (sym c.in_default.ensures)) refl refl refl c.refuse.ensures
+    serves _ _ _ c.args.desk.now c.args.desk.now c.refuse_words.new.desk c.args.words.now _ _ _ (no_command (sym c.in_default.ensures)) refl refl refl c.refuse_words.ensures
 
 pub returns-in-Ok : goal.returns-in-Ok
 returns-in-Ok g c =
     serves _ _ _ c.args.desk.now c.lay_out.new.desk c.report.new.desk c.args.words.now _ _ _
-    (laid c.args.words.now c.in-Some.net.now (g.D.Desk.files c.args.desk.now) c.in-Ok.layout.chain c.in-Ok.layout.grid (sym c.in-Some.ensures) c.in-Ok.ensures.chain c.in-Ok.ensures.grid)
+    (laid c.args.words.now c.in-Some.net.now (sym c.in-Some.ensures) (g.D.Desk.files c.args.desk.now) c.in-Ok.layout.net c.in-Ok.layout.inversions c.in-Ok.layout.grid c.in-Ok.ensures.layout c.in-Ok.ensures.grid)
     c.lay_out.ensures.files_stay c.lay_out.ensures.said_stays c.in-Ok.ensures.ok_no_fault c.report.ensures
 
 -- why the file was refused
-refused : (g : _) (c : goal.After-refuse-in-Err-NotBuilt g) → FileEnds (g.D.Desk.files c.args.desk.now) c.in-Some.net.now (g.D.Desk.faults c.args.desk.now) (g.D.Desk.faults c.lay_out.new.desk) NotBuilt
-refused g c = subst (λ (e : NoLayout). FileEnds (g.D.Desk.files c.args.desk.now) c.in-Some.net.now (g.D.Desk.faults c.args.desk.now) (g.D.Desk.faults c.lay_out.new.desk) e) c.in-Err-NotBuilt.field-0-is c.in-Err-NotBuilt.ensures.err
+refused : (g : _) (c : goal.After-refuse g) → FileEnds (g.D.Desk.files c.args.desk.now) c.in-Some.net.now (g.D.Desk.faults c.args.desk.now) (g.D.Desk.faults c.lay_out.new.desk) (Fault c.in-Err-Fault.fault)
+refused g c = subst (λ (e : NoLayout). FileEnds (g.D.Desk.files c.args.desk.now) c.in-Some.net.now (g.D.Desk.faults c.args.desk.now) (g.D.Desk.faults c.lay_out.new.desk) e) c.in-Err-Fault.field-0-is c.in-Err-Fault.ensures.err
 
-pub returns-in-Err-NotBuilt : goal.returns-in-Err-NotBuilt
-returns-in-Err-NotBuilt g c =
-    serves _ _ _ c.args.desk.now c.lay_out.new.desk c.refuse-in-Err-NotBuilt.new.desk c.args.words.now _ _ _
-    (no_form c.in-Some.net.now (sym c.in-Some.ensures) (refused g c).0 (of_no_form c.args.words.now c.in-Some.net.now (sym c.in-Some.ensures) (g.D.Desk.files c.args.desk.now) (refused g c).2))
-    c.lay_out.ensures.files_stay c.lay_out.ensures.said_stays (refused g c).1 c.refuse-in-Err-NotBuilt.ensures
+pub returns-in-Err-Fault : goal.returns-in-Err-Fault
+returns-in-Err-Fault g c =
+    serves _ _ _ c.args.desk.now c.lay_out.new.desk c.refuse.new.desk c.args.words.now _ _ _
+    (refused_for c.args.words.now c.in-Some.net.now (sym c.in-Some.ensures) (g.D.Desk.files c.args.desk.now) (refused g c).1.0 c.in-Err-Fault.fault (refused g c).1.1 (refused g c).1.2)
+    c.lay_out.ensures.files_stay c.lay_out.ensures.said_stays (refused g c).0 c.refuse.ensures
 
 pub returns-in-Err-Unread : goal.returns-in-Err-Unread
 returns-in-Err-Unread g c = record {

@@ -1,0 +1,148 @@
+//! The line of a refusal: what is wrong, in words, places and names. It promises the text that the
+//! definitions name for a fault; which fault an input has is left to its readers.
+ghost use Rattle.std.specs.Prelude.{◌≡◌, map, [], ◌∷◌, codes, decimal};
+ghost use Rattle.bx_desk.specs.Pieces.{pending};
+ghost use Rattle.bx_engine.specs.Says.{Says};
+ghost use Rattle.bx_engine.specs.Words.{word_text};
+ghost use Rattle.bx_engine.specs.Texts.{spaced, refusal_text, which_text, construct_text, lex_fault_text, read_fault_text, net_fault_text, input_fault_text};
+
+use crate::say::{Word, put_line, put_spaced, put_word, put_words};
+use crate::status::{InputFault, Which};
+use bx_desk::{Desk, Failed, Piece};
+use bx_lex::LexFault;
+use bx_logic::Name;
+use bx_verilog::{Construct, NetFault, ReadFault};
+
+/// Puts out the line of a refusal, which names these words.
+pub(crate) fn put_refusal<D: Desk>(
+    first: &[u8],
+    further: &[Word],
+    piece: &mut Piece,
+    desk: &mut D,
+) -> Result<(), Failed>
+    ensures { Says D.files D.said D.faults desk.old desk.new result (pending piece.old) (pending piece.new)
+        (refusal_text (spaced first.now (map word_text further.now))) }
+{
+    put_word(Word::Text(b"refused"), piece, desk)?;
+    put_spaced(Word::Text(first), piece, desk)?;
+    put_words(further, piece, desk)?;
+    put_word(Word::Text(b"\n"), piece, desk)
+}
+
+/// Puts out the line of the refusal of an input.
+pub(crate) fn put_fault<D: Desk>(
+    fault: &InputFault,
+    piece: &mut Piece,
+    desk: &mut D,
+) -> Result<(), Failed>
+    ensures { Says D.files D.said D.faults desk.old desk.new result (pending piece.old) (pending piece.new) (refusal_text (input_fault_text fault.now)) }
+{
+    match fault {
+        InputFault::TooLong(which) => {
+            put_refusal(b"long", &[Word::Text(which_word(*which))], piece, desk)
+        }
+        InputFault::Lex(fault) => put_lex_fault(*fault, piece, desk),
+        InputFault::Read(fault) => put_read_fault(*fault, piece, desk),
+        InputFault::Net(fault) => put_net_fault(fault, piece, desk),
+        InputFault::NotBuilt => put_refusal(b"not built", &[], piece, desk),
+    }
+}
+
+// The file or output, as a word.
+fn which_word(which: Which) -> &'static [u8]
+    ensures { result.now ≡ which_text which }
+{
+    match which {
+        Which::NetFile => b"net",
+        Which::Output => b"output",
+    }
+}
+
+// Puts out the line of the refusal of a text that has no tokens.
+fn put_lex_fault<D: Desk>(fault: LexFault, piece: &mut Piece, desk: &mut D) -> Result<(), Failed>
+    ensures { Says D.files D.said D.faults desk.old desk.new result (pending piece.old) (pending piece.new) (refusal_text (lex_fault_text fault)) }
+{
+    match fault {
+        LexFault::BadByte(place) => put_lex_place(b"byte", place, piece, desk),
+        LexFault::OpenComment(place) => put_lex_place(b"comment", place, piece, desk),
+        LexFault::OpenAttribute(place) => put_lex_place(b"attribute", place, piece, desk),
+        LexFault::NoMemory => put_refusal(b"memory", &[], piece, desk),
+    }
+}
+
+// Puts out the line of the refusal of a text for what stands at a place.
+fn put_lex_place<D: Desk>(
+    what: &[u8],
+    place: u64,
+    piece: &mut Piece,
+    desk: &mut D,
+) -> Result<(), Failed>
+    ensures { Says D.files D.said D.faults desk.old desk.new result (pending piece.old) (pending piece.new)
+        (refusal_text (spaced (codes "lex") (what.now ∷ decimal place ∷ []))) }
+{
+    put_refusal(
+        b"lex",
+        &[Word::Text(what), Word::Number(place)],
+        piece,
+        desk,
+    )
+}
+
+// Puts out the line of the refusal of tokens that are no module.
+fn put_read_fault<D: Desk>(fault: ReadFault, piece: &mut Piece, desk: &mut D) -> Result<(), Failed>
+    ensures { Says D.files D.said D.faults desk.old desk.new result (pending piece.old) (pending piece.new) (refusal_text (read_fault_text fault)) }
+{
+    match fault {
+        ReadFault::Syntax(place) => put_refusal(b"syntax", &[Word::Number(place)], piece, desk),
+        ReadFault::NotTaken(place, construct) => {
+            let word = Word::Text(construct_word(construct));
+            put_refusal(b"not taken", &[Word::Number(place), word], piece, desk)
+        }
+        ReadFault::TooDeep(place) => put_refusal(b"deep", &[Word::Number(place)], piece, desk),
+        ReadFault::NoMemory => put_refusal(b"memory", &[], piece, desk),
+    }
+}
+
+// A construct that isn't taken, as a word.
+fn construct_word(construct: Construct) -> &'static [u8]
+    ensures { result.now ≡ construct_text construct }
+{
+    match construct {
+        Construct::Vector => b"vector",
+        Construct::Ternary => b"ternary",
+        Construct::Delay => b"delay",
+        Construct::Concat => b"concat",
+        Construct::Operator => b"operator",
+        Construct::Directive => b"directive",
+        Construct::Instance => b"instance",
+        Construct::Second => b"second",
+        Construct::Number => b"number",
+        Construct::Reserved => b"reserved",
+    }
+}
+
+// Puts out the line of the refusal of a module that has no net.
+fn put_net_fault<D: Desk>(fault: &NetFault, piece: &mut Piece, desk: &mut D) -> Result<(), Failed>
+    ensures { Says D.files D.said D.faults desk.old desk.new result (pending piece.old) (pending piece.new) (refusal_text (net_fault_text fault.now)) }
+{
+    match fault {
+        NetFault::BadPort(name) => put_named(b"port", name, piece, desk),
+        NetFault::NoOutput => put_refusal(b"no output", &[], piece, desk),
+        NetFault::TwoDrivers(name) => put_named(b"drivers", name, piece, desk),
+        NetFault::NoDriver(name) => put_named(b"no driver", name, piece, desk),
+        NetFault::Cycle(name) => put_named(b"cycle", name, piece, desk),
+        NetFault::NoMemory => put_refusal(b"memory", &[], piece, desk),
+    }
+}
+
+// Puts out the line of a refusal that names a name.
+fn put_named<D: Desk>(
+    fault: &[u8],
+    name: &Name,
+    piece: &mut Piece,
+    desk: &mut D,
+) -> Result<(), Failed>
+    ensures { Says D.files D.said D.faults desk.old desk.new result (pending piece.old) (pending piece.new) (refusal_text (spaced fault.now (name.now ∷ []))) }
+{
+    put_refusal(fault, &[Word::Text(name.as_slice())], piece, desk)
+}

@@ -47,7 +47,8 @@ pub fn run<T: Threads + Sync, D: Desk, G: Gate + Sync>(
     ensures words_said { result ≡ Status.Words WordFault.Command
         → Adds (D.said desk.old) (D.said desk.new) (refusal_text (word_fault_text WordFault.Command)) }
 
-    // A file is refused for what is first wrong with its text, and only for that; which fault of reading it is isn't claimed.
+    // A file is refused for what is first wrong with its text, and for nothing else. Which fault of reading
+    // it is isn't claimed.
     ensures refused_only { (fault : Fault) → result ≡ Status.Refused fault → (text : Text) → net_text words.now (D.files desk.old) ≡ Some text
         → IsRefused text fault }
     ensures refused { IsSettled result → (text : Text) → net_text words.now (D.files desk.old) ≡ Some text → (fault : Fault) → IsRefused text fault
@@ -55,7 +56,8 @@ pub fn run<T: Threads + Sync, D: Desk, G: Gate + Sync>(
     ensures refused_said { (fault : Fault) → result ≡ Status.Refused fault
         → Adds (D.said desk.old) (D.said desk.new) (refusal_text (input_fault_text fault)) }
 
-    // A layout is found where the text is an accepted module's whose net is a chain, and only there, and its report is said.
+    // A layout is found where the text is that of an accepted module whose net is a chain, and only there,
+    // and its report is said.
     ensures found_only { (ratio : Sides) → result ≡ Status.Found ratio → (text : Text) → net_text words.now (D.files desk.old) ≡ Some text
         → (m : ModuleTree) × (k : ℕ) × IsLaidOut text m k × (ratio ≡ (column_of k).ratio) }
     ensures found { IsSettled result → (text : Text) → net_text words.now (D.files desk.old) ≡ Some text → (m : ModuleTree) (k : ℕ) → IsLaidOut text m k

@@ -196,12 +196,13 @@ fn a_file_that_is_missing_or_too_long(rt: HostRuntime) -> Result<(), Fail> {
     let missing = run(&rt, alloc, other.as_slice(), &mut desk, &OpenGate);
     assert!(rt; matches!(missing, Status::ReadFault(Which::NetFile)));
 
-    let spaces = vec![in alloc; 32u8; MODULE_BYTES as usize + 1]?;
-    desk.put("net.v", &spaces[..MODULE_BYTES as usize])?;
-    let longest = run(&rt, alloc, design.as_slice(), &mut desk, &OpenGate);
-    assert!(rt; matches!(longest, Status::Refused(InputFault::Read(_))));
+    let longest = vec![in alloc; 32u8; MODULE_BYTES as usize]?;
+    desk.put("net.v", longest.as_slice())?;
+    let no_module = run(&rt, alloc, design.as_slice(), &mut desk, &OpenGate);
+    assert!(rt; matches!(no_module, Status::Refused(InputFault::Read(_))));
 
-    desk.put("net.v", spaces.as_slice())?;
+    let long = vec![in alloc; 32u8; MODULE_BYTES as usize + 1]?;
+    desk.put("net.v", long.as_slice())?;
     let too_long = run(&rt, alloc, design.as_slice(), &mut desk, &OpenGate);
     assert!(rt;
         matches!(

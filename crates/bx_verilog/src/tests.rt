@@ -1,0 +1,301 @@
+//! Tests of what no clause says: that texts have nets where there is memory, and what the nets of some
+//! modules give. The faults and values are those that Verilog has for these texts.
+ghost use Rattle.std.specs.Prelude.{◌≡◌, length};
+
+use super::*;
+use bx_lex::read_tokens;
+use bx_logic::{Driver, Net, Op};
+use std::alloc::Global;
+use std::process::Abort;
+use std::test::Fail;
+
+/// The net of a text, or the first fault of its module.
+fn read(alloc: Global, text: &str) -> Result<Result<Net, NetFault>, Fail> {
+    if text.len() >= 1 << 32 {
+        return Err("a text of the tests is short".into());
+    }
+    let Ok(tokens) = read_tokens(alloc, text.as_bytes()) else {
+        return Err("a text of the tests has tokens".into());
+    };
+    let Ok(module) = read_module(alloc, text.as_bytes(), &tokens) else {
+        return Err("a text of the tests is a module".into());
+    };
+    Ok(to_net(alloc, &module))
+}
+
+/// The net of a text in which nothing is wrong.
+fn net(alloc: Global, text: &str) -> Result<Net, Fail> {
+    match read(alloc, text)? {
+        Ok(net) => Ok(net),
+        Err(_) => Err("nothing is wrong with the module".into()),
+    }
+}
+
+/// What a fault says, and of which name.
+fn parts(fault: &NetFault) -> (&str, &[u8]) {
+    match fault {
+        NetFault::BadPort(name) => ("bad port", name.as_slice()),
+        NetFault::NoOutput => ("no output", &[]),
+        NetFault::TwoDrivers(name) => ("two drivers", name.as_slice()),
+        NetFault::NoDriver(name) => ("no driver", name.as_slice()),
+        NetFault::Cycle(name) => ("cycle", name.as_slice()),
+        NetFault::NoMemory => ("no memory", &[]),
+    }
+}
+
+/// The output values of a net for these values of its inputs.
+fn values(rt: &impl Abort, alloc: Global, net: &Net, bits: &[bool]) -> Result<Vec<bool>, Fail> {
+    assert_eq!(rt; bits.len(), net.input_count() as usize);
+    let mut out = Vec::new(alloc);
+    net.eval(alloc, bits, &mut out)?;
+    Ok(out)
+}
+
+#[test]
+fn the_first_fault_is_answered(rt: HostRuntime) -> Result<(), Fail> {
+    let table: [(&str, &str, &str); 17] = [
+        (
+            "(a, y); input a; output y; assign y=a; not(y,a);",
+            "two drivers",
+            "y",
+        ),
+        (
+            "(a, y); input a; output y; assign y=a; not(p,q); not(q,p);",
+            "cycle",
+            "p",
+        ),
+        (
+            "(a, y); input a; output y; assign y = a & k;",
+            "no driver",
+            "k",
+        ),
+        ("(a, y); input a; output y;", "no driver", "y"),
+        ("(a,a); input a;", "bad port", "a"),
+        ("(a); input a;", "no output", ""),
+        (
+            "(a, y); input a; output y; and (y, a, p); not (p, q); not (q, p);",
+            "cycle",
+            "p",
+        ),
+        (
+            "(a, y); input a; output y; wire q; assign y = a; not (p, q); not (q, p);",
+            "cycle",
+            "q",
+        ),
+        (
+            "(a, y); input a; output y; assign y = a, a = y;",
+            "two drivers",
+            "a",
+        ),
+        ("(a, y); input a; output y; assign y = y;", "cycle", "y"),
+        (
+            "(a, y); input a; output a, y; assign y = a;",
+            "bad port",
+            "a",
+        ),
+        ("(a, y); input a; assign y = a;", "bad port", "y"),
+        (
+            "(a, y); input a; output y; input b; assign y = a;",
+            "bad port",
+            "b",
+        ),
+        (
+            "(input a, output y); input a; assign y = a;",
+            "bad port",
+            "a",
+        ),
+        (
+            "(a, y); input a; output y; wire w; assign y = a | w;",
+            "no driver",
+            "w",
+        ),
+        (
+            "(a, y); input a; output y; buf (y, p, a), (p, y);",
+            "two drivers",
+            "p",
+        ),
+        (
+            "(a, y); input a; output y; wire w = ~w; assign y = a;",
+            "cycle",
+            "w",
+        ),
+    ];
+    for (item, kind, name) in &table {
+        let text = format!(in rt.alloc(); "module m{item} endmodule")?;
+        match read(rt.alloc(), &text)? {
+            Ok(_) => return Err("something is wrong with the module".into()),
+            Err(fault) => {
+                let found = parts(&fault);
+                assert_eq!(rt; found.0, *kind, "{item}");
+                assert_eq!(rt; found.1, name.as_bytes(), "{item}");
+            }
+        }
+    }
+    Ok(())
+}
+
+#[test]
+fn nets_give_what_their_texts_say(rt: HostRuntime) -> Result<(), Fail> {
+    let table: [(&str, &[bool], &[bool]); 19] = [
+        (
+            "(a, b, c, y); input a, b, c; output y; nand (y, a, b, c);",
+            &[true, true, false],
+            &[true],
+        ),
+        (
+            "(a, b, c, y); input a, b, c; output y; nand (y, a, b, c);",
+            &[true, true, true],
+            &[false],
+        ),
+        (
+            "(a, b, c, y); input a, b, c; output y; xnor (y, a, b, c);",
+            &[true, true, false],
+            &[true],
+        ),
+        (
+            "(a, b, c, y); input a, b, c; output y; xnor (y, a, b, c);",
+            &[true, false, false],
+            &[false],
+        ),
+        ("(a, y); input a; output y; assign y = a;", &[true], &[true]),
+        (
+            "(a, y); input a; output y; wire w = ~a; assign y = w;",
+            &[true],
+            &[false],
+        ),
+        (
+            "(a, y); input a; output y; assign y = a ^ 1'b1;",
+            &[true],
+            &[false],
+        ),
+        ("(y); output y; assign y = 1'b1;", &[], &[true]),
+        (
+            "(a, b, y); input a, b; output y; assign y = ~a & b;",
+            &[false, false],
+            &[false],
+        ),
+        // `&` before `^` and `~^`, and these before `|`: each row has another value in another order.
+        (
+            "(a, b, c, d, e, y); input a, b, c, d, e; output y; assign y = a | b & c ^ d ~^ e;",
+            &[true, false, false, false, true],
+            &[true],
+        ),
+        (
+            "(a, b, c, d, e, y); input a, b, c, d, e; output y; assign y = a | b & c ^ d ~^ e;",
+            &[true, false, false, true, true],
+            &[true],
+        ),
+        (
+            "(a, b, c, d, e, y); input a, b, c, d, e; output y; assign y = a | b & c ^ d ~^ e;",
+            &[false, false, false, true, true],
+            &[true],
+        ),
+        (
+            "(a, b, c, d, e, y); input a, b, c, d, e; output y; assign y = a | b & c ^ d ~^ e;",
+            &[false, true, true, true, true],
+            &[false],
+        ),
+        (
+            "(a, b, c, y); input a, b, c; output y; assign y = (a | b) & c;",
+            &[true, false, false],
+            &[false],
+        ),
+        (
+            "(a, b, y, z); input a, b; output y, z; not (y, z, a & b);",
+            &[true, false],
+            &[true, true],
+        ),
+        (
+            "(a, y, z); input a; output y, z; buf (y, z, a);",
+            &[true],
+            &[true, true],
+        ),
+        (
+            "(y, b, z, a); input a, b; output y, z; assign z = a, y = b;",
+            &[true, false],
+            &[true, false],
+        ),
+        (
+            "(output y, input a); assign y = w; wire w; nor (w, a, a);",
+            &[false],
+            &[true],
+        ),
+        (
+            "(a, y); input a; output y; wire unused; assign y = a; or (\\z+ , a, y);",
+            &[false],
+            &[false],
+        ),
+    ];
+    for (item, bits, wanted) in &table {
+        let text = format!(in rt.alloc(); "module m{item} endmodule")?;
+        let net = net(rt.alloc(), &text)?;
+        let found = values(&rt, rt.alloc(), &net, *bits)?;
+        assert_eq!(rt; found.as_slice(), *wanted, "{item}");
+    }
+    Ok(())
+}
+
+#[test]
+fn names_come_first_and_several_outputs_share_an_expression(rt: HostRuntime) -> Result<(), Fail> {
+    let text =
+        "module m(a, b, y); input a, b; output y; not (p, q, a & b); or (y, p, q); endmodule";
+    let net = net(rt.alloc(), text)?;
+    assert_eq!(rt; net.name().as_slice(), b"m".as_slice());
+    assert_eq!(rt; net.input_count(), 2);
+    assert_eq!(rt; net.output_count(), 1);
+    assert_eq!(rt; net.len(), 6);
+    assert_eq!(rt; net.input_name(1).as_slice(), b"b".as_slice());
+    assert_eq!(rt; net.output_name(0).as_slice(), b"y".as_slice());
+    assert_eq!(rt; net.output_net(0), 2);
+    assert!(rt; matches!(net.driver(1), Driver::Input(1)));
+    for named in [3, 4] {
+        let Driver::Gate(Op::Not, arguments) = net.driver(named) else {
+            return Err("p and q are negations".into());
+        };
+        assert_eq!(rt; arguments.as_slice(), [5].as_slice());
+    }
+    let Driver::Gate(Op::And, arguments) = net.driver(5) else {
+        return Err("one net has the conjunction".into());
+    };
+    assert_eq!(rt; arguments.as_slice(), [0, 1].as_slice());
+    Ok(())
+}
+
+/// A module of so many wires, each the negation of the one before it.
+fn deep(alloc: Global, count: u32) -> Result<String, Fail> {
+    let mut text = format!(in alloc; "module m(a,y);input a;output y;wire w0=~a")?;
+    for wire in 1..count {
+        text.push_str(format!(in alloc; ",w{wire}=~w{}", wire - 1)?.as_str())?;
+    }
+    text.push_str(format!(in alloc; ";buf(y,w{});endmodule", count.saturating_sub(1))?.as_str())?;
+    Ok(text)
+}
+
+/// A module of one expression and one gate with so many operands each.
+fn wide(alloc: Global, count: u32) -> Result<String, Fail> {
+    let mut text = format!(in alloc; "module m(a,y);input a;output y;xor(y,a")?;
+    for _ in 1..count {
+        text.push_str(",a")?;
+    }
+    for _ in 1..count {
+        text.push_str("^a")?;
+    }
+    text.push_str(");endmodule")?;
+    Ok(text)
+}
+
+#[test]
+fn large_modules_have_nets(rt: HostRuntime) -> Result<(), Fail> {
+    let alloc = rt.alloc();
+    let deep = net(alloc, &deep(alloc, 2_000)?)?;
+    let wide = net(alloc, &wide(alloc, 20_000)?)?;
+    assert_eq!(rt; deep.len(), 4_002);
+    assert_eq!(rt; wide.len(), 20_001);
+    for bit in [false, true] {
+        let out = values(&rt, alloc, &deep, &[bit])?;
+        assert_eq!(rt; out.as_slice(), [bit].as_slice());
+        let out = values(&rt, alloc, &wide, &[bit])?;
+        assert_eq!(rt; out.as_slice(), [bit].as_slice());
+    }
+    Ok(())
+}

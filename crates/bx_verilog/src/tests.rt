@@ -261,6 +261,20 @@ fn names_come_first_and_several_outputs_share_an_expression(rt: HostRuntime) -> 
     Ok(())
 }
 
+#[test]
+fn operators_of_a_level_group_to_the_left(rt: HostRuntime) -> Result<(), Fail> {
+    let text = "module m(a, b, c, y); input a, b, c; output y; assign y = a & b & c; endmodule";
+    let net = net(rt.alloc(), text)?;
+    assert_eq!(rt; net.len(), 6);
+    for (number, wanted) in [(3, [5].as_slice()), (4, &[0, 1]), (5, &[4, 2])] {
+        let Driver::Gate(_, arguments) = net.driver(number) else {
+            return Err("y and the nets behind it are gates".into());
+        };
+        assert_eq!(rt; arguments.as_slice(), wanted);
+    }
+    Ok(())
+}
+
 /// A module of so many wires, each the negation of the one before it.
 fn deep(alloc: Global, count: u32) -> Result<String, Fail> {
     let mut text = format!(in alloc; "module m(a,y);input a;output y;wire w0=~a")?;

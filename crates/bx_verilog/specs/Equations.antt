@@ -1,5 +1,5 @@
 -- What a module means: its ports, and an equation for each driver of a name.
-use Rattle.std.specs.Prelude.{◌≡◌, ℕ, Bool, List, map, flat_map}
+use Rattle.std.specs.Prelude.{◌≡◌, Bool, List, map, flat_map}
 use Rattle.std.specs.List.{AllByRecursion}
 use Rattle.bx_logic.specs.declared.op.Op.{Op}
 use Rattle.bx_logic.specs.Op.{op_value}

@@ -1,6 +1,4 @@
 use Rattle.std.proofs.Common.{sym, ap, ◌∙◌, subst, length, [], arith}
-use Rattle.bx_logic.specs.Lists.{AreDistinct}
-use Rattle.bx_verilog.specs.Mentions.{Mention, mentions}
 use Rattle.bx_verilog.specs.Lowering.{HaveArguments, inner_size}
 use Rattle.bx_verilog.proofs.DriverSteps.{module-drives, module_drivers}
 use Rattle.bx_verilog.proofs.Numbering.{firsts-distinct}

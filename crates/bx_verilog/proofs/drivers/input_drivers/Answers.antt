@@ -1,4 +1,4 @@
-use Rattle.std.proofs.Common.{sym, ap, ◌∙◌, ◌+◌, ◌-◌, ◌≡◌, map, subst, arith}
+use Rattle.std.proofs.Common.{ap, ◌∙◌, ◌+◌, ◌-◌, ◌≡◌, map, arith}
 use Rattle.bx_verilog.proofs.DriverSteps.{input_from, input_set, inputs_none, inputs_all}
 use Rattle.bx_verilog.proofs.drivers.input_drivers.Goals as goal
 

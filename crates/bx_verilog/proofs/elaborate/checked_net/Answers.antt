@@ -1,4 +1,4 @@
-use Rattle.std.proofs.Common.{◌∙◌, sym, ap, length, arith}
+use Rattle.std.proofs.Common.{◌∙◌, ap, length, arith}
 use Rattle.bx_verilog.specs.Mentions.{is_input}
 use Rattle.bx_verilog.proofs.ElaboratedNets.{few-of-ports}
 use Rattle.bx_verilog.proofs.Elaborating.{have-arguments, few-names, few-drivers, reads-only, cycle-within, cycle-least, parts-are, parts-net, accepted}

@@ -1,9 +1,9 @@
-use Rattle.std.proofs.Common.{◌≡◌, ◌+◌, sym, ◌∙◌, ap, refl, rules, arith}
+use Rattle.std.proofs.Common.{sym, ◌∙◌, ap, arith}
 use Rattle.std.proofs.lemmas.List.{take_all}
 use Rattle.bx_syntax.specs.Trees.{tree, tail}
 use Rattle.bx_verilog.specs.Formulas.{formula, grouped}
 use Rattle.bx_verilog.specs.Elaboration.{own}
-use Rattle.bx_verilog.proofs.Lowering.{nodes, nodes_behind, lowered_length, lowered_negation, lowered_pair, joined-formula, joined-nodes, operand-nodes, grouped-more, operand_fits, own-grows, lowered_operand, negation_result}
+use Rattle.bx_verilog.proofs.Lowering.{nodes_behind, lowered_length, joined-formula, joined-nodes, operand-nodes, operand_fits, own-grows, lowered_operand, negation_result}
 use Rattle.bx_verilog.proofs.expression.+net_of_expression.Goals as goal
 
 pub push_gate-requires-clause-fits : goal.push_gate-requires-clause-fits

@@ -1,4 +1,4 @@
-use Rattle.std.proofs.Common.{sym, ap, ◌∙◌, ◌++◌, [], ◌∷◌, arith}
+use Rattle.std.proofs.Common.{arith}
 use Rattle.bx_verilog.proofs.Lowering.{lowered_more, expression_fits}
 use Rattle.bx_verilog.proofs.expression.nets_of_expressions.Goals as goal
 

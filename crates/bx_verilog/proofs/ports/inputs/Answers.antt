@@ -1,4 +1,4 @@
-use Rattle.std.proofs.Common.{refl, ap, ◌∙◌, ◌++◌, [], ◌∷◌, sym, arith}
+use Rattle.std.proofs.Common.{refl, ◌∙◌, sym}
 use Rattle.bx_verilog.specs.Mentions.{is_input}
 use Rattle.bx_verilog.proofs.PortSteps.{port-within, port-taken, port-left, all-ports}
 use Rattle.bx_verilog.proofs.ports.inputs.Goals as goal

@@ -1,4 +1,4 @@
-use Rattle.std.proofs.Common.{refl, ap, ◌∙◌, ◌++◌, [], ◌∷◌, sym, arith}
+use Rattle.std.proofs.Common.{refl, ap, ◌∙◌, sym}
 use Rattle.bx_verilog.specs.Mentions.{is_output}
 use Rattle.bx_verilog.proofs.PortSteps.{port-within, port-taken, port-left, all-ports, numbered-push, numbered_outputs}
 use Rattle.bx_verilog.proofs.ports.outputs.Goals as goal

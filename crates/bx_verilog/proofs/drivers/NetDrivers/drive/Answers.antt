@@ -1,4 +1,3 @@
-use Rattle.std.proofs.Common.{ap, length, arith}
 use Rattle.bx_verilog.specs.Lowering.{shown_drive}
 use Rattle.bx_verilog.proofs.Lowering.{some_nets}
 use Rattle.bx_verilog.proofs.DriverSteps.{drive_result}

@@ -1,4 +1,4 @@
-use Rattle.std.proofs.Common.{sym, ap, length, arith}
+use Rattle.std.proofs.Common.{arith}
 use Rattle.bx_verilog.specs.Lowering.{item_drives}
 use Rattle.bx_verilog.proofs.DriverSteps.{gathered_more, gathered_fits, gathered_each}
 use Rattle.bx_verilog.proofs.drivers.NetDrivers.drive_items.Goals as goal

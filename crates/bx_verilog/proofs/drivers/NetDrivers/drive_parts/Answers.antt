@@ -1,10 +1,5 @@
-use Rattle.std.proofs.Common.{sym, ap, ◌∙◌, length, subst, arith}
-use Rattle.std.specs.List.{sum_by}
-use Rattle.std.proofs.lemmas.List.{length-map}
-use Rattle.std.proofs.lemmas.List.Sums.{sum_by-cons}
-use Rattle.bx_verilog.specs.Drives.{Drive}
-use Rattle.bx_verilog.specs.Elaboration.{all_own}
-use Rattle.bx_verilog.specs.Lowering.{part_drives, inner_size, HaveArguments, AreDriversToo}
+use Rattle.std.proofs.Common.{arith}
+use Rattle.bx_verilog.specs.Lowering.{part_drives}
 use Rattle.bx_verilog.proofs.DriverSteps.{gathered_more, gathered_fits, gathered_each, one_drive_has, one_drive_size, too_none}
 use Rattle.bx_verilog.proofs.drivers.NetDrivers.drive_parts.Goals as goal
 use Rattle.bx_verilog.proofs.drivers.NetDrivers.drive_parts.Goals.{in-Some+in_ok-drive, in_default}

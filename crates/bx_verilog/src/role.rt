@@ -1,8 +1,9 @@
-//! What a name stands for where it stands in a module.
+//! What a name stands for at a place in a module. Each place where a name stands, behind the module's own,
+//! has exactly one of these roles; where the places are, and what follows from their roles, is left to others.
 
 use bx_syntax::tree::Direction;
 
-/// What a name stands for.
+/// What a name stands for at one place.
 #[derive(Clone, Copy, Debug, PartialEq, Eq)]
 pub enum Role {
     /// A port of the header.

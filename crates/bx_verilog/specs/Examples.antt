@@ -1,5 +1,6 @@
--- A module for each fault, which has it as its first, and modules whose nets and faults show the numbers of names.
-use Rattle.std.specs.Prelude.{false, List, [], ◌∷◌, map, codes, Option, Some, None}
+-- A module for each fault, which has it as its first, and modules that show how names and nets are
+-- numbered.
+use Rattle.std.specs.Prelude.{false, List, [], ◌∷◌, map, codes, Some, None}
 use Rattle.bx_logic.specs.declared.op.Op.TheVariants.{And, Not}
 use Rattle.bx_logic.specs.declared.driver.Driver.TheVariants.{Input as InputDriver, Constant, Gate}
 use Rattle.bx_logic.specs.Nets.{Netlist, netlist}

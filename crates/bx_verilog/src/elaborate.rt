@@ -1,6 +1,6 @@
-//! From a parsed module to its net. It promises the net of a module in which nothing is wrong, and else
-//! the first fault: the one that the definitions say, unless memory runs out. Reading the text is left to
-//! `bx_syntax`, and what a net computes to `bx_logic`.
+//! From a parsed module to its net. It promises the net of a module in which nothing is wrong, and the
+//! first fault of any other, unless memory runs out. Reading the text is left to `bx_syntax`, and what a
+//! net computes to `bx_logic`.
 ghost use Rattle.std.specs.Prelude.{◌≡◌, ◌≢◌, Result, Ok, Err, IfOk, IfErr};
 ghost use Rattle.bx_logic.specs.Nets.{Netlist};
 ghost use Rattle.bx_syntax.specs.Texts.{IsTree};

@@ -1,6 +1,5 @@
-//! The fault of a module that is in the grammar: what can be wrong with one, and with which name. It says
-//! what the kinds are; which fault is a module's first is said by the definitions that contracts cite, and
-//! found by others.
+//! The faults of a module that is in the grammar: what can be wrong with it, and with which of its names.
+//! Which fault comes first is for the definitions that contracts cite to say, and for others to find.
 ghost use Rattle.std.specs.Prelude.{◌≡◌};
 ghost use Rattle.bx_verilog.specs.declared.fault.NetFault.TheVariants.{NoMemory as OutOfMemory};
 

@@ -11,7 +11,7 @@ pub mod laws;
 mod mentions;
 mod names;
 mod ports;
-// Nothing here calls for it from outside, but contracts speak of roles.
+// Public, since contracts speak of it.
 pub mod role;
 mod uses;
 

@@ -1,5 +1,6 @@
-//! What a name stands for at a place in a module. Each place where a name stands, behind the module's own,
-//! has exactly one of these roles; where the places are, and what follows from their roles, is left to others.
+//! What a name stands for at a place in a module. A mention of a name has exactly one of these roles, and a
+//! port with its direction in the header is mentioned twice. Which mentions there are, and what follows
+//! from their roles, is left to others.
 
 use bx_syntax::tree::Direction;
 

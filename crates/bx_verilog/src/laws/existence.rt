@@ -4,6 +4,7 @@
 ghost use Rattle.std.specs.Prelude.{◌≡◌, Bool, List, Result, Ok, codes, length, map};
 ghost use Rattle.bx_logic.specs.Nets.{Netlist};
 ghost use Rattle.bx_syntax.specs.Parts.{ModuleTree};
+ghost use Rattle.bx_syntax.specs.Texts.{IsTree};
 ghost use Rattle.bx_verilog.specs.declared.fault.NetFault.{NetFault};
 ghost use Rattle.bx_verilog.specs.declared.fault.NetFault.TheVariants.{BadPort, NoOutput, TwoDrivers, NoDriver, Cycle};
 ghost use Rattle.bx_verilog.specs.Elaboration.{Elaborates};
@@ -31,9 +32,11 @@ pub fn each_fault_comes()
     ensures cycle { IsFault cycle (Cycle (codes "p")) }
 {}
 
-/// Names are numbered by first appearance, also that of a wire without a driver; behind them come the nets
-/// of the operators, operands before what joins them, and once where several names are driven from them.
+/// Names are numbered by first appearance, also that of a wire without a driver. Behind them come the nets
+/// of the operators, operands before what joins them, and only once for all outputs of a `not`.
 pub fn numbers_follow_the_text()
+    // The example is a module of some text.
+    ensures tree { IsTree accepted }
     ensures net { Elaborates accepted (Ok accepted_net) }
     ensures cycle { IsFault cycle_of_wire (Cycle (codes "q")) }
 {}

@@ -2,6 +2,7 @@
 -- depends on itself does so through one of a name, since an expression's net reads nets of its parts
 -- alone, which have smaller numbers.
 use Rattle.std.proofs.Common.{◌≡◌, ℕ, ◌+◌, ◌<◌, ◌≤◌, Some, List, [], ◌∷◌, ◌++◌, flat_map, length, get_or, take, drop, Contains, ◌⊎◌, inl, inr, refl, sym, ◌∙◌, ap, subst, arith}
+use Rattle.std.specs.Prelude.{◌↔◌}
 use Rattle.std.specs.List.{slice_get, All}
 use Rattle.std.proofs.lemmas.Bool.{cases_lt}
 use Rattle.std.proofs.lemmas.List.{length-take-le, get_or-take, get_or_default, take-append-drop, drop_more}
@@ -422,6 +423,10 @@ module _ (m : ModuleTree) where
       let e = name-of-number i n (omega (arith, front)) (get_or_default (names m) i n d (omega (arith, front))) in
       least i (omega (arith, front))
       (subst (λ (j : ℕ). DependsOn drivers_of j j) e (names-depend n n once (subst (λ (x : Text). IsOnCycle m x) same on)))
+
+pub cycle-numbered : (m : ModuleTree) → IsDriven m → (n : Text) → Contains (names m) n →
+    IsOnCycle m n ↔ DependsOn (net_of m).drivers (number m n) (number m n)
+cycle-numbered m driven n c = (λ d. names-depend m n n driven.0.1 d, λ d. cycle-of-name m n c d)
 
 pub acyclic-names : (m : ModuleTree) → IsDriven m → IsAcyclic (net_of m).drivers → IsFree (IsOnCycle m)
 acyclic-names m driven acyclic n d = acyclic (number m n) (names-depend m n n driven.0.1 d)

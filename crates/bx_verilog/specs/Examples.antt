@@ -1,11 +1,15 @@
--- A module for each fault, which has it as its first.
-use Rattle.std.specs.Prelude.{List, [], ◌∷◌, map, codes, None}
+-- A module for each fault, which has it as its first, and modules that show how names and nets are
+-- numbered.
+use Rattle.std.specs.Prelude.{false, List, [], ◌∷◌, map, codes, Some, None}
 use Rattle.bx_logic.specs.declared.op.Op.TheVariants.{And, Not}
+use Rattle.bx_logic.specs.declared.driver.Driver.TheVariants.{Input as InputDriver, Constant, Gate}
+use Rattle.bx_logic.specs.Nets.{Netlist, netlist}
+use Rattle.bx_syntax.specs.declared.tree.Direction.{Direction}
 use Rattle.bx_syntax.specs.declared.tree.Direction.TheVariants.{Input, Output}
 use Rattle.bx_syntax.specs.declared.tree.Operator.TheVariants.{And as AndSign}
 use Rattle.bx_syntax.specs.declared.tree.Port.{Port}
-use Rattle.bx_syntax.specs.Trees.{net, joined, done}
-use Rattle.bx_syntax.specs.Parts.{PartTree, declaration, assign, gate, copies, ModuleTree}
+use Rattle.bx_syntax.specs.Trees.{net, inverse, joined, done}
+use Rattle.bx_syntax.specs.Parts.{PartTree, declaration, wire, assign, gate, copies, ModuleTree}
 use Rattle.bx_verilog.specs.Formulas.{Text}
 
 -- a port of the header without a direction
@@ -41,5 +45,50 @@ cycle = from_a_to_y (
     gate And (codes "y") (net (codes "a") ∷ net (codes "p") ∷ [])
     ∷ copies Not (codes "p" ∷ []) (net (codes "q"))
     ∷ copies Not (codes "q" ∷ []) (net (codes "p"))
+    ∷ []
+    )
+
+-- a port of the header with a direction
+abbrev directed : Direction → Text → Port
+directed d n = record { name = n; direction = Some d }
+
+-- `module m(output y); wire q; not (y, p); not (p, q); not (q, p); endmodule`: the wire comes before p
+abbrev pub cycle_of_wire : ModuleTree
+cycle_of_wire = record {
+  name = codes "m";
+  ports = directed Output (codes "y") ∷ [];
+  items = map (λ part. part ∷ []) (
+      wire (codes "q") None
+      ∷ copies Not (codes "y" ∷ []) (net (codes "p"))
+      ∷ copies Not (codes "p" ∷ []) (net (codes "q"))
+      ∷ copies Not (codes "q" ∷ []) (net (codes "p"))
+      ∷ []
+      );
+}
+
+-- `module m(input a, input b, output y); wire w; not (p, y, a & ~b); endmodule`
+abbrev pub accepted : ModuleTree
+accepted = record {
+  name = codes "m";
+  ports = directed Input (codes "a") ∷ directed Input (codes "b") ∷ directed Output (codes "y") ∷ [];
+  items = map (λ part. part ∷ []) (
+      wire (codes "w") None
+      ∷ copies Not (codes "p" ∷ codes "y" ∷ []) (joined (net (codes "a")) AndSign (inverse (net (codes "b"))) done)
+      ∷ []
+      );
+}
+
+-- Its net: the names a, b, y, w and p are 0 to 4. Behind them `~b` is 5, and `a & ~b`, which both gates read, is 6.
+abbrev pub accepted_net : Netlist
+accepted_net =
+    netlist (codes "m") (codes "a" ∷ codes "b" ∷ []) ((codes "y", 2) ∷ [])
+    (
+    InputDriver 0
+    ∷ InputDriver 1
+    ∷ Gate Not (6 ∷ [])
+    ∷ Constant false
+    ∷ Gate Not (6 ∷ [])
+    ∷ Gate Not (1 ∷ [])
+    ∷ Gate And (0 ∷ 5 ∷ [])
     ∷ []
     )

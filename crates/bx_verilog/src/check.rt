@@ -1,7 +1,7 @@
 //! What is wrong with a module by the uses of its names. It promises the first of those faults, and that
 //! where there is none every name that needs a driver has exactly one; whether a name depends on itself
 //! is for others to say.
-ghost use Rattle.std.specs.Prelude.{◌≡◌, ◌≢◌, ◌<◌, List, [], None, length, nat_lt, position, slice_index_or, IfErr, IfOk, OnOk};
+ghost use Rattle.std.specs.Prelude.{◌≡◌, ◌≢◌, None, length, nat_lt, position, IfErr, OnOk};
 ghost use Rattle.std.specs.List.{list_any};
 ghost use Rattle.bx_syntax.specs.Parts.{ModuleTree};
 ghost use Rattle.bx_verilog.specs.Faults.{IsDriven, IsFault};
@@ -9,15 +9,16 @@ ghost use Rattle.bx_verilog.specs.Flaws.{IsFirst, fault_of, shows};
 ghost use Rattle.bx_verilog.specs.Uses.{AreUses};
 
 use crate::fault::NetFault;
-use crate::names::Names;
+use crate::names::{Names, copy};
 use crate::uses::Uses;
-use bx_logic::{Name, NoMemory};
+use bx_logic::Name;
 use std::alloc::Global;
 
 /// What can be wrong with a name.
 #[derive(Clone, Copy, Debug)]
 enum Flaw {
-    /// It stands twice in the header, or has two directions, or one of the two alone.
+    /// It stands twice in the header, has two directions, stands in the header without one, or has one
+    /// and doesn't stand there.
     Port,
     /// Two things drive it.
     Drivers,
@@ -48,7 +49,7 @@ impl Flaw {
         }
     }
 
-    /// Refuses names of which one has it, with the fault of the first.
+    /// Refuses the first name that has it, by its fault.
     fn rule_out(self, alloc: Global, names: &Names, uses: &[Uses]) -> Result<(), NetFault>
         requires { length uses.now ≡ length names.now }
         ensures none { OnOk result (position (shows self) uses.now ≡ None) }
@@ -56,19 +57,11 @@ impl Flaw {
     {
         for number in 0..names.len() {
             if self.is_in(&uses[number as usize]) {
-                return Err(self.fault(name(alloc, names, number)?));
+                return Err(self.fault(copy(alloc, names.name(number))?));
             }
         }
         Ok(())
     }
-}
-
-/// A copy of the name with this number.
-fn name(alloc: Global, names: &Names, number: u32) -> Result<Name, NoMemory>
-    requires { number < length names.now }
-    ensures { IfOk result (λ name. name ≡ slice_index_or names.now number []) }
-{
-    Ok(Name::new(names.name(number).to_vec(alloc)?))
 }
 
 /// Whether one of the names is an output.

@@ -52,7 +52,7 @@ fn drive_of(part: &Part) -> Option<Drive<'_>>
     })
 }
 
-/// Has a driver drive a name, where it is one of these.
+/// Sets the driver of a name, if it is one of these.
 fn set_driver(named: &mut Vec<Driver>, names: &Names, name: &Name, driver: Driver)
     ensures { named.new.items ≡ slice_set named.old.items (number_among names.now name.now) driver }
 {
@@ -80,13 +80,15 @@ fn input_drivers(alloc: Global, names: &Names, inputs: &[Name]) -> Result<Vec<Dr
     ensures { IfOk result (λ named. named.items ≡ map (λ n. chosen None (position (bytes_eq n) inputs.now)) names.now) }
 {
     let mut named = constants(alloc, names)?;
+    // From the last to the first: what is set later stays, and of two equal names the definition counts the
+    // first place.
     for i in (0..inputs.len() as u32).rev() {
         set_driver(&mut named, names, &inputs[i as usize], Driver::Input(i));
     }
     Ok(named)
 }
 
-/// Has the gate of an operation over these nets drive each of these names.
+/// Sets the driver of each of these names: the gate of an operation over these nets.
 fn drive_all(
     alloc: Global,
     named: &mut Vec<Driver>,

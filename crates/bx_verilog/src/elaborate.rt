@@ -1,4 +1,6 @@
-//! The net of a module, or the first thing that is wrong with it.
+//! From a parsed module to its net. It promises the net of a module in which nothing is wrong, and the
+//! first fault of any other, unless memory runs out. Reading the text is left to `bx_syntax`, and what a
+//! net computes to `bx_logic`.
 ghost use Rattle.std.specs.Prelude.{◌≡◌, ◌≢◌, Result, Ok, Err, IfOk, IfErr};
 ghost use Rattle.bx_logic.specs.Nets.{Netlist};
 ghost use Rattle.bx_syntax.specs.Texts.{IsTree};
@@ -11,8 +13,8 @@ use crate::check::check;
 use crate::drivers::drivers;
 use crate::fault::NetFault;
 use crate::mentions::mentions;
-use crate::names::Names;
-use crate::ports::{copy, inputs, outputs};
+use crate::names::{Names, copy};
+use crate::ports::{inputs, outputs};
 use crate::uses::{Uses, uses_of};
 use bx_logic::{Name, Net, least_net_on_cycle};
 use bx_syntax::Module;

@@ -1,15 +1,16 @@
-//! What can be wrong with a module that is in the grammar. Which fault is the first is in the
-//! definitions beside the contracts.
+//! The faults of a module that is in the grammar: what can be wrong with it, and with which of its names.
+//! Which fault comes first is for the definitions that contracts cite to say, and for others to find.
 ghost use Rattle.std.specs.Prelude.{◌≡◌};
 ghost use Rattle.bx_verilog.specs.declared.fault.NetFault.TheVariants.{NoMemory as OutOfMemory};
 
 use bx_logic::{Name, NoMemory};
 
 /// Why a module has no net. The faults come in this order, and of one kind that of the least-numbered
-/// name comes first.
+/// name comes first. `NoMemory` is no fault of the module, and may come at any time.
 #[derive(Debug, Drop)]
 pub enum NetFault {
-    /// The name stands twice in the header, or has two directions, or one of the two alone.
+    /// The name stands twice in the header, has two directions, stands in the header without one, or has
+    /// one and doesn't stand there.
     BadPort(Name),
     /// No port is an output.
     NoOutput,

@@ -1,7 +1,7 @@
 //! Laws of the definitions that the contracts cite. Nothing here runs.
 ghost use Rattle.std.specs.Prelude.{◌≡◌, ◌↔◌, ◌≤◌, Bool, List, Result, map, Contains};
 ghost use Rattle.std.specs.List.{AllZip};
-ghost use Rattle.bx_logic.specs.Nets.{IsAcyclic, IsNet, Netlist};
+ghost use Rattle.bx_logic.specs.Nets.{DependsOn, IsAcyclic, IsNet, Netlist};
 ghost use Rattle.bx_logic.specs.Values.{IsNetValuation, AreOutputValues, value_of};
 ghost use Rattle.bx_syntax.specs.Parts.{ModuleTree};
 ghost use Rattle.bx_syntax.specs.Texts.{IsTree};
@@ -10,7 +10,7 @@ ghost use Rattle.bx_verilog.specs.Elaboration.{Elaborates, net_of};
 ghost use Rattle.bx_verilog.specs.Equations.{Assignment, Gives, module_of};
 ghost use Rattle.bx_verilog.specs.Faults.{IsAccepted, IsDriven, IsFree, IsOnCycle};
 ghost use Rattle.bx_verilog.specs.Formulas.{Text};
-ghost use Rattle.bx_verilog.specs.Mentions.{count, inputs, is_driven, number, outputs};
+ghost use Rattle.bx_verilog.specs.Mentions.{count, inputs, is_driven, names, number, outputs};
 
 pub mod existence;
 pub mod expressions;
@@ -20,9 +20,11 @@ pub fn one_meaning()
     ensures { (m : ModuleTree) (r s : Result Netlist NetFault) → Elaborates m r → Elaborates m s → r ≡ s }
 {}
 
-/// A name depends on itself by the equations of a module exactly where a net of the module's net does.
+/// A name depends on itself by the equations of a module exactly where its net does, and no name does
+/// exactly where no net does.
 pub fn a_cycle_of_names_is_one_of_nets()
-    ensures { (m : ModuleTree) → IsDriven m → IsFree (IsOnCycle m) ↔ IsAcyclic (net_of m).drivers }
+    ensures names { (m : ModuleTree) → IsDriven m → (n : Text) → Contains (names m) n → IsOnCycle m n ↔ DependsOn (net_of m).drivers (number m n) (number m n) }
+    ensures none { (m : ModuleTree) → IsDriven m → IsFree (IsOnCycle m) ↔ IsAcyclic (net_of m).drivers }
 {}
 
 /// The lists of a module of some text, in which nothing is wrong, make a net.
@@ -35,6 +37,7 @@ pub fn an_accepted_module_makes_a_net()
 pub fn a_net_computes_its_module()
     ensures names { (m : ModuleTree) → IsAccepted m → (a : Assignment) (values : List Bool) → IsNetValuation (net_of m).drivers (map a (inputs m)) values → (n : Text) → 1 ≤ count is_driven m n → Gives (module_of m) a n (value_of values (number m n)) }
     ensures values { (m : ModuleTree) → IsAccepted m → (a : Assignment) (values : List Bool) → IsNetValuation (net_of m).drivers (map a (inputs m)) values → (n : Text) → Contains (outputs m) n → Gives (module_of m) a n (value_of values (number m n)) }
-    // What a net answers are the values of the outputs, in order.
+    // What a net answers are the values of the outputs, in order. That no name depends on itself is no
+    // premise here: there are such values only where no net does.
     ensures outputs { (m : ModuleTree) → IsDriven m → (a : Assignment) (outs : List Bool) → AreOutputValues (net_of m) (map a (inputs m)) outs → AllZip (Gives (module_of m) a) (outputs m) outs }
 {}

@@ -11,6 +11,7 @@ pub mod laws;
 mod mentions;
 mod names;
 mod ports;
+// Public, since contracts speak of it.
 pub mod role;
 mod uses;
 

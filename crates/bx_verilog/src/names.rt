@@ -1,11 +1,12 @@
 //! The names of a module, numbered by first appearance. A name is found by its bytes in the time of one
-//! look-up, and by its number at once. Which names there are is for others to say.
+//! look-up, and by its number at once. Which names there are is for others to say. These names are borrowed
+//! from the module: `copy` makes one that is not.
 ghost use Rattle.std.specs.Prelude.{◌≡◌, ◌<◌, List, ℕ, length, map, slice_index_or, [], IfOk};
 ghost use Rattle.bx_verilog.specs.Mentions.{firsts};
 ghost use Rattle.bx_verilog.specs.Shown.{shown, number_among};
 
 use crate::mentions::Mention;
-use bx_logic::NoMemory;
+use bx_logic::{Name, NoMemory};
 use indexmap::IndexSet;
 use std::alloc::Global;
 use std::marker::Model;
@@ -59,4 +60,11 @@ impl<'a> Names<'a> {
     {
         self.set[number as usize]
     }
+}
+
+/// A copy of a name.
+pub(crate) fn copy(alloc: Global, name: &[u8]) -> Result<Name, NoMemory>
+    ensures { IfOk result (λ copy. copy ≡ name.now) }
+{
+    Ok(Name::new(name.to_vec(alloc)?))
 }

@@ -5,18 +5,11 @@ ghost use Rattle.std.specs.Prelude.{◌≡◌, map, IfOk};
 ghost use Rattle.bx_verilog.specs.Mentions.{number, inputs as inputs_of, outputs as outputs_of};
 ghost use Rattle.bx_verilog.specs.Uses.{AreUses};
 
-use crate::names::Names;
+use crate::names::{Names, copy};
 use crate::uses::Uses;
 use bx_logic::{Name, NoMemory};
 use bx_syntax::Module;
 use std::alloc::Global;
-
-/// A copy of a name.
-pub(crate) fn copy(alloc: Global, name: &[u8]) -> Result<Name, NoMemory>
-    ensures { IfOk result (λ copy. copy ≡ name.now) }
-{
-    Ok(Name::new(name.to_vec(alloc)?))
-}
 
 /// The names of the inputs.
 pub(crate) fn inputs(

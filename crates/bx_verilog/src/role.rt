@@ -1,8 +1,10 @@
-//! What a name stands for where it stands in a module.
+//! What a name stands for at a place in a module. A mention of a name has exactly one of these roles, and a
+//! port with its direction in the header is mentioned twice. Which mentions there are, and what follows
+//! from their roles, is left to others.
 
 use bx_syntax::tree::Direction;
 
-/// What a name stands for.
+/// What a name stands for at one place.
 #[derive(Clone, Copy, Debug, PartialEq, Eq)]
 pub enum Role {
     /// A port of the header.

@@ -1,13 +1,15 @@
 //! Laws that the definitions leave nothing out: each module means something, its inputs may have any
-//! values, and each fault is the first of some module. Nothing here runs.
-ghost use Rattle.std.specs.Prelude.{◌≡◌, Bool, List, Result, codes, length, map};
+//! values, and each fault is the first of some module. Two examples show how names and nets are
+//! numbered. Nothing here runs.
+ghost use Rattle.std.specs.Prelude.{◌≡◌, Bool, List, Result, Ok, codes, length, map};
 ghost use Rattle.bx_logic.specs.Nets.{Netlist};
 ghost use Rattle.bx_syntax.specs.Parts.{ModuleTree};
+ghost use Rattle.bx_syntax.specs.Texts.{IsTree};
 ghost use Rattle.bx_verilog.specs.declared.fault.NetFault.{NetFault};
 ghost use Rattle.bx_verilog.specs.declared.fault.NetFault.TheVariants.{BadPort, NoOutput, TwoDrivers, NoDriver, Cycle};
 ghost use Rattle.bx_verilog.specs.Elaboration.{Elaborates};
 ghost use Rattle.bx_verilog.specs.Equations.{Assignment};
-ghost use Rattle.bx_verilog.specs.Examples.{bad_port, no_output, two_drivers, no_driver, cycle};
+ghost use Rattle.bx_verilog.specs.Examples.{bad_port, no_output, two_drivers, no_driver, cycle, cycle_of_wire, accepted, accepted_net};
 ghost use Rattle.bx_verilog.specs.Faults.{HasPorts, IsFault};
 ghost use Rattle.bx_verilog.specs.Mentions.{inputs};
 
@@ -28,4 +30,13 @@ pub fn each_fault_comes()
     ensures two_drivers { IsFault two_drivers (TwoDrivers (codes "y")) }
     ensures no_driver { IsFault no_driver (NoDriver (codes "k")) }
     ensures cycle { IsFault cycle (Cycle (codes "p")) }
+{}
+
+/// Names are numbered by first appearance, also that of a wire without a driver. Behind them come the nets
+/// of the operators, operands before what joins them, and only once for all outputs of a `not`.
+pub fn numbers_follow_the_text()
+    // The example is a module of some text.
+    ensures tree { IsTree accepted }
+    ensures net { Elaborates accepted (Ok accepted_net) }
+    ensures cycle { IsFault cycle_of_wire (Cycle (codes "q")) }
 {}

@@ -3,10 +3,11 @@
 ghost use Rattle.std.specs.Prelude.{◌≡◌, ◌≢◌, ◌↔◌, Bool, not, ◌&&◌, ◌||◌, IsTrue, List, [], ◌∷◌, Some, None, flat_map, map};
 ghost use Rattle.bx_logic.specs.declared.op.Op.{Op};
 ghost use Rattle.bx_logic.specs.declared.op.Op.TheVariants.{Buf};
+ghost use Rattle.bx_syntax.specs.declared.tree.Direction.{Direction};
 ghost use Rattle.bx_syntax.specs.declared.tree.Operator.{Operator};
 ghost use Rattle.bx_syntax.specs.declared.tree.Operator.TheVariants.{And, Or, Xor, Xnor};
 ghost use Rattle.bx_syntax.specs.Trees.{Tree, group, joined, done, link};
-ghost use Rattle.bx_syntax.specs.Parts.{PartTree, wire, assign, gate, copies};
+ghost use Rattle.bx_syntax.specs.Parts.{PartTree, declaration, wire, assign, gate, copies};
 ghost use Rattle.bx_verilog.specs.Formulas.{Text, Formula, named, constant, negation, pair, formula, formula_value};
 ghost use Rattle.bx_verilog.specs.Drives.{drives_of};
 ghost use Rattle.bx_verilog.specs.Equations.{equations_of};
@@ -28,9 +29,11 @@ pub fn operators_group_to_the_left()
     ensures grouped { (o p : Operator) (a b c : Tree) → formula (joined a o (group (joined b p c done)) done) ≡ pair o (formula a) (pair p (formula b) (formula c)) }
 {}
 
-/// An assignment is a `Buf`, and so is a wire with a driver; a gate has all its arguments; each output of a
-/// `buf` or a `not` has an equation. A wire without a driver has none.
+/// The declaration of a port drives nothing, nor does that of a wire without a driver. An assignment is
+/// a `Buf`, and so is a wire with a driver; a gate has all its arguments; each output of a `buf` or a `not`
+/// has an equation.
 pub fn what_parts_say()
+    ensures port { (d : Direction) (n : Text) → drives_of (declaration d n) ≡ [] }
     ensures bare { (n : Text) → drives_of (wire n None) ≡ [] }
     ensures wire { (n : Text) (e : Tree) → flat_map equations_of (drives_of (wire n (Some e))) ≡ (record { target = n; op = Buf; arguments = formula e ∷ [] }) ∷ [] }
     ensures assign { (n : Text) (e : Tree) → flat_map equations_of (drives_of (assign n e)) ≡ (record { target = n; op = Buf; arguments = formula e ∷ [] }) ∷ [] }

@@ -8,7 +8,7 @@ returns-then-is_in-clause-first c = λ other. record {
   number = c.loop-number.number;
   first = position-at (shows c.args.self) c.args.uses.now c.loop-number.number _
       (omega (arith, c.len-number-end.ensures, c.requires, c.loop-number-test.true)) (λ k low. c.loop-number.invariant k _ low) (sym c.if-is_in.ensures);
-  is = c.fault.ensures ∙ ap (fault_of c.args.self) c.in_ok-name.ensures;
+  is = c.fault.ensures ∙ ap (fault_of c.args.self) (c.in_ok-copy.ensures ∙ c.name.ensures);
 }
 
 pub returns-clause-none : goal.returns-clause-none

@@ -14,6 +14,7 @@ use Rattle.bx_verilog.specs.Faults.{IsAccepted, IsFault}
 use Rattle.bx_verilog.specs.Equations.{Module}
 use Rattle.bx_verilog.specs.Elaboration.{net_of}
 use Rattle.bx_engine.specs.declared.grid.Ratio.{Ratio}
+use Rattle.bx_engine.specs.declared.design.TheConstants.{MODULE_BYTES}
 use Rattle.bx_engine.specs.declared.grid.TheConstants.{DEFAULT_LIMITS}
 use Rattle.bx_engine.specs.Chains.{IsChain}
 use Rattle.bx_engine.specs.Grids.{FormGrid, Pins, IsFormGrid, IsSound, ArePins, Computes}
@@ -42,7 +43,7 @@ module _ {A : Type 0} where
 
 -- a text that isn't too long to be read
 abbrev pub IsShort : Text → Type 0
-IsShort text = length text ≤ 1048576
+IsShort text = length text ≤ MODULE_BYTES
 
 -- the text of a module: its tokens are in the grammar with this tree, and nothing nests deeper than 256
 pub record IsText (text : Text) (m : ModuleTree) : Type 0 where
@@ -65,7 +66,7 @@ pub record IsNotBuilt (text : Text) : Type 0 where
 
 -- the text is refused for this; which fault of reading it is, isn't claimed
 abbrev pub IsRefused : Text → InputFault → Type 0
-IsRefused text (TooLong which) = (which ≡ NetFile) × (1048576 < length text)
+IsRefused text (TooLong which) = (which ≡ NetFile) × (MODULE_BYTES < length text)
 IsRefused text (Lex fault) = IsShort text × HasFault text fault
 IsRefused text (Read fault) = IsShort text × IsNoModule text × (fault ≢ NoMemory)
 IsRefused text (Net fault) = IsShort text × ((m : ModuleTree) × IsText text m × IsFault m fault)

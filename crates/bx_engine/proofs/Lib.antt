@@ -25,6 +25,7 @@ pub mod Designs
 pub mod Serving
 pub mod Clauses
 pub mod Readings
+pub mod EachText
 pub mod Answers
 pub mod Spellings
 pub mod PlainTexts

@@ -43,7 +43,7 @@ module _ (net : Netlist) (is : IsNet net) (n m : ℕ) where
 
 module _ (drivers : List Driver) where
   -- a walk from a copy goes on at the net that it copies
-  of_copy : (n m k : ℕ) → driver_at drivers n ≡ Gate Buf (m ∷ []) → LeadsToInput drivers n k → LeadsToInput drivers m k
+  pub of_copy : (n m k : ℕ) → driver_at drivers n ≡ Gate Buf (m ∷ []) → LeadsToInput drivers n k → LeadsToInput drivers m k
   of_copy n m _ e (input _ f) = let lost : Gate Buf (m ∷ []) ≡ Input 0 = sym e ∙ f in cc
   of_copy n m _ e (copy _ l k f w) =
       let same : Gate Buf (l ∷ []) ≡ Gate Buf (m ∷ []) = sym f ∙ e in
@@ -52,7 +52,7 @@ module _ (drivers : List Driver) where
   of_copy n m _ e (inversion _ l k f w) = let lost : Gate Buf (m ∷ []) ≡ Gate Not (l ∷ []) = sym e ∙ f in cc
 
   -- and one from an inversion likewise, with one inversion less
-  of_inversion : (n m k : ℕ) → driver_at drivers n ≡ Gate Not (m ∷ []) → LeadsToInput drivers n k → (rest : ℕ) × (k ≡ suc rest) × LeadsToInput drivers m rest
+  pub of_inversion : (n m k : ℕ) → driver_at drivers n ≡ Gate Not (m ∷ []) → LeadsToInput drivers n k → (rest : ℕ) × (k ≡ suc rest) × LeadsToInput drivers m rest
   of_inversion n m _ e (input _ f) = let lost : Gate Not (m ∷ []) ≡ Input 0 = sym e ∙ f in cc
   of_inversion n m _ e (copy _ l k f w) = let lost : Gate Not (m ∷ []) ≡ Gate Buf (l ∷ []) = sym e ∙ f in cc
   of_inversion n m _ e (inversion _ l k f w) =

@@ -5,6 +5,7 @@ use Rattle.std.specs.Str.{bytes_eq}
 use Rattle.bx_logic.specs.Nets.{Netlist}
 use Rattle.bx_desk.specs.Desk.{Files}
 use Rattle.bx_lex.specs.Tokens.{TokenList, HasTokens, HasFault}
+use Rattle.bx_syntax.specs.declared.expression.TheConstants.{DEEPEST}
 use Rattle.bx_syntax.specs.declared.fault.ReadFault.TheVariants.{NoMemory}
 use Rattle.bx_syntax.specs.Parts.{ModuleTree}
 use Rattle.bx_syntax.specs.Terminals.{terminals_of}
@@ -45,17 +46,17 @@ module _ {A : Type 0} where
 abbrev pub IsShort : Text → Type 0
 IsShort text = length text ≤ MODULE_BYTES
 
--- the text of a module: its tokens are in the grammar with this tree, and nothing nests deeper than 256
+-- the text of a module: its tokens are in the grammar with this tree, and nothing nests too deep
 pub record IsText (text : Text) (m : ModuleTree) : Type 0 where
   pub found : TokenList
   pub tokens : HasTokens text found
-  pub is_module : IsModule 256 m (terminals_of text found.tokens)
+  pub is_module : IsModule DEEPEST m (terminals_of text found.tokens)
 
 -- a text with tokens that are no module's, or nest too deep
 pub record IsNoModule (text : Text) : Type 0 where
   pub found : TokenList
   pub tokens : HasTokens text found
-  pub no_module : (m : ModuleTree) → IsModule 256 m (terminals_of text found.tokens) → ⊥
+  pub no_module : (m : ModuleTree) → IsModule DEEPEST m (terminals_of text found.tokens) → ⊥
 
 -- the text of a module that is accepted, and whose net is no chain
 pub record IsNotBuilt (text : Text) : Type 0 where

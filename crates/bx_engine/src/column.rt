@@ -38,7 +38,8 @@ fn tiles(alloc: Global, inversions: u32) -> Result<Vec<Option<Form>>, NoMemory>
     Ok(tiles)
 }
 
-// The form on a row of the column. A signal zigzags down the column, since each row is shifted against the one above it.
+// The form on a row of the column. A signal zigzags down it, since each row is shifted against the one
+// above.
 fn form_of_row(inversions: u32, y: u32) -> Form
     ensures { result ≡ column_form inversions y }
 {

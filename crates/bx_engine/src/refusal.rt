@@ -6,7 +6,7 @@ ghost use Rattle.bx_engine.specs.Says.{Says};
 ghost use Rattle.bx_engine.specs.Words.{word_text};
 ghost use Rattle.bx_engine.specs.Texts.{spaced, refusal_text, memory_text, which_text, construct_text, lex_fault_text, read_fault_text, net_fault_text, input_fault_text};
 
-use crate::say::{Word, put_line, put_spaced, put_word, put_words};
+use crate::say::{Word, put_spaced, put_word, put_words};
 use crate::status::{InputFault, Which};
 use bx_desk::{Desk, Failed, Piece};
 use bx_lex::LexFault;

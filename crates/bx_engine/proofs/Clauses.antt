@@ -22,6 +22,12 @@ use Rattle.bx_engine.proofs.Readings.{refused_alike, not_both, one_layout}
 use Rattle.bx_engine.proofs.Modules.{laid_out_is}
 
 module _ {A : Type 0} (words : List (String A)) (told : Option Files) (s0 s1 : Option (List ℕ)) (before now : Counts) where
+  pub answer_said : (r : Status) → Outcome words told s0 s1 before now r → IsSettled r → (text : Text) × IsAnswer words told r text × Adds s0 s1 text
+  answer_said _ (answered status text is adds) settled = (text, is, adds)
+  answer_said _ (unsaid _ _ a front rose) settled = absurd settled
+  answer_said _ (unread net named same rose) settled = absurd settled
+  answer_said _ (no_memory same) settled = absurd settled
+
   pub refused_only : (r : Status) → Outcome words told s0 s1 before now r → (fault : InputFault) → r ≡ Refused fault → (text : Text) → net_text words told ≡ Some text → IsRefused text fault
   refused_only _ (answered _ _ (no_command none) adds) fault e text t = cc
   refused_only _ (answered _ _ (refused_for net u f named there has is) adds) fault e text t =

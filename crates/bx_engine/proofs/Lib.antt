@@ -32,3 +32,4 @@ pub mod PlainTexts
 pub mod PlainNames
 pub mod FormNames
 pub mod Reports
+pub mod Refusals

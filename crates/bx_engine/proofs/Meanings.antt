@@ -1,6 +1,6 @@
 -- The network of a chain computes a module whose one output has the value of its one input, inverted as
 -- many times.
-use Rattle.std.proofs.Common.{◌≡◌, ℕ, zero, suc, ◌+◌, min, Bool, List, [], ◌∷◌, ◌++◌, replicate, Some, sym, ◌∙◌, ap, subst, refl, arith}
+use Rattle.std.proofs.Common.{◌≡◌, ℕ, zero, suc, ◌+◌, min, Bool, List, [], ◌∷◌, ◌++◌, length, replicate, Some, sym, ◌∙◌, ap, subst, refl, arith}
 use Rattle.std.specs.Prelude.{slice_get, slice_index_or}
 use Rattle.bx_verilog.specs.Formulas.{Text}
 use Rattle.bx_verilog.specs.Equations.{Module, Assignment, Gives}
@@ -19,6 +19,16 @@ output_at zero zero node e is = (refl, sym (some_is e))
 output_at zero (suc v) node e is = cc
 output_at (suc k) zero node e is = let other : Not ≡ Output = ap (λ (n : Node). n.kind) (some_is e) ∙ is in cc
 output_at (suc k) (suc v) node e is = let h = output_at k v node e is in (ap suc h.0, h.1)
+
+-- and there it stands
+output_stands : (k : ℕ) → slice_get (replicate k not_node ++ output_node ∷ []) k ≡ Some output_node
+output_stands zero = refl
+output_stands (suc k) = output_stands k
+
+-- an output node of the network stands last
+output_last : (k v : ℕ) (node : Node) → slice_get (chain_network k).nodes v ≡ Some node → node.kind ≡ Output → v ≡ suc k
+output_last k zero node e kind = let other : Input ≡ Output = ap (λ (n : Node). n.kind) (some_is e) ∙ kind in absurd cc
+output_last k (suc v) node e kind = ap suc (output_at k v node e kind).0
 
 module _ (m : Module) (input output : Text) (k : ℕ) (one_input : m.inputs ≡ input ∷ []) (one_output : m.outputs ≡ output ∷ [])
     (gives : (a : Assignment) → Gives m a output (inverted k (a input))) where
@@ -39,6 +49,8 @@ module _ (m : Module) (input output : Text) (k : ℕ) (one_input : m.inputs ≡ 
 
   pub chain-network-computes : NetworkComputes (chain_network k) m
   chain-network-computes = record {
+    present = λ port few. (suc k, output_node, output_stands k, refl, omega (arith, ap (λ (names : List Text). length names) one_output));
+    once = λ u v one other at_u at_v is_one is_other ports. output_last k u one at_u is_one ∙ sym (output_last k v other at_v is_other);
     some = λ a. (λ v. inverted (min v k) (port_value m a 0), (chain_inverts k (port_value m a) (λ v. inverted (min v k) (port_value m a 0))).1 (λ v h. refl));
     outputs = value_at_output;
   }

@@ -1,5 +1,5 @@
 -- What is said, as lines: the report of a layout, and the line of a refusal.
-use Rattle.std.specs.Prelude.{ℕ, List, [], ◌∷◌, ◌++◌, ◌≢◌, ◌<◌, ◌^◌, length, map, flat_map, codes, decimal, Option, None, Some, unwrap_or}
+use Rattle.std.specs.Prelude.{ℕ, List, [], ◌∷◌, ◌++◌, ◌≢◌, ◌<◌, ◌^◌, length, map, flat_map, codes, decimal, Option, None, Some, unwrap_or, ⊤}
 use Rattle.std.specs.List.{range_with_len, AllByRecursion}
 use Rattle.bx_verilog.specs.Formulas.{Text}
 use Rattle.bx_lex.specs.declared.token.LexFault.{LexFault}
@@ -123,6 +123,15 @@ net_fault_text (TwoDrivers name) = spaced (codes "drivers") (name ∷ [])
 net_fault_text (NoDriver name) = spaced (codes "no driver") (name ∷ [])
 net_fault_text (Cycle name) = spaced (codes "cycle") (name ∷ [])
 net_fault_text NetNoMemory = memory_text
+
+-- the name that the fault names, if any, is plain
+abbrev pub IsPlainFault : NetFault → Type 0
+IsPlainFault (BadPort name) = IsPlain name
+IsPlainFault NoOutput = ⊤
+IsPlainFault (TwoDrivers name) = IsPlain name
+IsPlainFault (NoDriver name) = IsPlain name
+IsPlainFault (Cycle name) = IsPlain name
+IsPlainFault NetNoMemory = ⊤
 
 abbrev pub input_fault_text : InputFault → Text
 input_fault_text (TooLong which) = spaced (codes "long") (which_text which ∷ [])

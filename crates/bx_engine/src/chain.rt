@@ -8,11 +8,12 @@ ghost use Rattle.bx_engine.specs.Walks.{IsStep};
 
 use bx_logic::{Args, Driver, Net, Op};
 
-/// The most inversions that a chain may have.
+// The most inversions that a chain may have: with its input and its output these are 96 nodes, the most
+// that a mapped network may have.
 const MOST_INVERSIONS: u32 = 94;
 
-/// What a walk to the input meets at a net: the input, a copy or an inversion of another net, or what
-/// no walk leads through.
+// What a walk to the input meets at a net: the input, a copy or an inversion of another net, or what
+// no walk leads through.
 #[derive(Clone, Copy)]
 enum Step {
     Input,

@@ -11,6 +11,10 @@ use bx_logic::NoMemory;
 use std::alloc::Global;
 
 /// The column of a chain with so many inversions.
+///
+/// # Errors
+///
+/// `NoMemory` if memory is refused for its tiles.
 pub fn column(alloc: Global, inversions: u32) -> Result<FormGrid, NoMemory>
     requires { inversions ≤ most_inversions }
     ensures { IfOk result (λ grid. grid ≡ column_of inversions) }
@@ -23,6 +27,7 @@ pub fn column(alloc: Global, inversions: u32) -> Result<FormGrid, NoMemory>
     Ok(FormGrid::new(ratio, tiles))
 }
 
+// The tiles of the column, from the first row to the last.
 fn tiles(alloc: Global, inversions: u32) -> Result<Vec<Option<Form>>, NoMemory>
     requires { inversions ≤ most_inversions }
     ensures { IfOk result (λ tiles. tiles.items ≡ column_tiles inversions) }
@@ -33,7 +38,8 @@ fn tiles(alloc: Global, inversions: u32) -> Result<Vec<Option<Form>>, NoMemory>
     Ok(tiles)
 }
 
-// A signal zigzags down the column, since each row is shifted against the one above it.
+// The form on a row of the column. A signal zigzags down it, since each row is shifted against the one
+// above.
 fn form_of_row(inversions: u32, y: u32) -> Form
     ensures { result ≡ column_form inversions y }
 {

@@ -33,7 +33,8 @@ use std::alloc::Global;
 use std::thread::Threads;
 
 /// Runs the command of the words: `design NET` lays out the module in the file NET, and says the
-/// report. It waits for nobody. The gate is not entered and no thread is started yet.
+/// report. It waits for nobody. All the memory that it takes is taken before anything is said. The gate
+/// is not entered and no thread is started yet.
 pub fn run<T: Threads + Sync, D: Desk, G: Gate + Sync>(
     _threads: &T,
     alloc: Global,
@@ -41,6 +42,10 @@ pub fn run<T: Threads + Sync, D: Desk, G: Gate + Sync>(
     desk: &mut D,
     _gate: &G,
 ) -> Status
+    // On every desk, also one that tells nothing of its files, a settled status is the answer to some text that
+    // the file may have, and what goes with it was said.
+    ensures answered { IsSettled result → (text : Text) × IsAnswer words.now (D.files desk.old) result text × Adds (D.said desk.old) (D.said desk.new) text }
+
     // The words are refused where they aren't `design` and a file, and only there.
     ensures words_only { result ≡ Status.Words WordFault.Command → net_word_of words.now ≡ None }
     ensures words { IsSettled result → net_word_of words.now ≡ None → result ≡ Status.Words WordFault.Command }

@@ -4,9 +4,9 @@ ghost use Rattle.std.specs.Prelude.{◌≡◌, map, [], ◌∷◌, codes, decima
 ghost use Rattle.bx_desk.specs.Pieces.{pending};
 ghost use Rattle.bx_engine.specs.Says.{Says};
 ghost use Rattle.bx_engine.specs.Words.{word_text};
-ghost use Rattle.bx_engine.specs.Texts.{spaced, refusal_text, which_text, construct_text, lex_fault_text, read_fault_text, net_fault_text, input_fault_text};
+ghost use Rattle.bx_engine.specs.Texts.{spaced, refusal_text, memory_text, which_text, construct_text, lex_fault_text, read_fault_text, net_fault_text, input_fault_text};
 
-use crate::say::{Word, put_line, put_spaced, put_word, put_words};
+use crate::say::{Word, put_spaced, put_word, put_words};
 use crate::status::{InputFault, Which};
 use bx_desk::{Desk, Failed, Piece};
 use bx_lex::LexFault;
@@ -54,6 +54,7 @@ fn which_word(which: Which) -> &'static [u8]
 {
     match which {
         Which::NetFile => b"net",
+        // Never comes: only a file is too long.
         Which::Output => b"output",
     }
 }
@@ -66,7 +67,7 @@ fn put_lex_fault<D: Desk>(fault: LexFault, piece: &mut Piece, desk: &mut D) -> R
         LexFault::BadByte(place) => put_lex_place(b"byte", place, piece, desk),
         LexFault::OpenComment(place) => put_lex_place(b"comment", place, piece, desk),
         LexFault::OpenAttribute(place) => put_lex_place(b"attribute", place, piece, desk),
-        LexFault::NoMemory => put_refusal(b"memory", &[], piece, desk),
+        LexFault::NoMemory => put_memory(piece, desk),
     }
 }
 
@@ -99,7 +100,7 @@ fn put_read_fault<D: Desk>(fault: ReadFault, piece: &mut Piece, desk: &mut D) ->
             put_refusal(b"not taken", &[Word::Number(place), word], piece, desk)
         }
         ReadFault::TooDeep(place) => put_refusal(b"deep", &[Word::Number(place)], piece, desk),
-        ReadFault::NoMemory => put_refusal(b"memory", &[], piece, desk),
+        ReadFault::NoMemory => put_memory(piece, desk),
     }
 }
 
@@ -131,7 +132,7 @@ fn put_net_fault<D: Desk>(fault: &NetFault, piece: &mut Piece, desk: &mut D) -> 
         NetFault::TwoDrivers(name) => put_named(b"drivers", name, piece, desk),
         NetFault::NoDriver(name) => put_named(b"no driver", name, piece, desk),
         NetFault::Cycle(name) => put_named(b"cycle", name, piece, desk),
-        NetFault::NoMemory => put_refusal(b"memory", &[], piece, desk),
+        NetFault::NoMemory => put_memory(piece, desk),
     }
 }
 
@@ -145,4 +146,12 @@ fn put_named<D: Desk>(
     ensures { Says D.files D.said D.faults desk.old desk.new result (pending piece.old) (pending piece.new) (refusal_text (spaced fault.now (name.now ∷ []))) }
 {
     put_refusal(fault, &[Word::Text(name.as_slice())], piece, desk)
+}
+
+// Puts out a line for want of memory. It never comes: want of memory is kept apart from the faults of an
+// input, and says nothing. There is a text only since the readers below name it among their faults.
+fn put_memory<D: Desk>(piece: &mut Piece, desk: &mut D) -> Result<(), Failed>
+    ensures { Says D.files D.said D.faults desk.old desk.new result (pending piece.old) (pending piece.new) (refusal_text memory_text) }
+{
+    put_refusal(b"memory", &[], piece, desk)
 }

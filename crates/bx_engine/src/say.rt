@@ -16,6 +16,10 @@ pub enum Word<'a> {
 }
 
 /// Puts out a word.
+///
+/// # Errors
+///
+/// `Failed` if the desk fails to say it.
 pub fn put_word<D: Desk>(word: Word, piece: &mut Piece, desk: &mut D) -> Result<(), Failed>
     ensures { Says D.files D.said D.faults desk.old desk.new result (pending piece.old) (pending piece.new) (word_text word.entry) }
 {
@@ -26,6 +30,10 @@ pub fn put_word<D: Desk>(word: Word, piece: &mut Piece, desk: &mut D) -> Result<
 }
 
 /// Puts out a space and a word.
+///
+/// # Errors
+///
+/// `Failed` if the desk fails to say it.
 pub fn put_spaced<D: Desk>(word: Word, piece: &mut Piece, desk: &mut D) -> Result<(), Failed>
     ensures { Says D.files D.said D.faults desk.old desk.new result (pending piece.old) (pending piece.new) (32 ∷ word_text word.entry) }
 {
@@ -34,6 +42,10 @@ pub fn put_spaced<D: Desk>(word: Word, piece: &mut Piece, desk: &mut D) -> Resul
 }
 
 /// Puts out words, each behind a space.
+///
+/// # Errors
+///
+/// `Failed` if the desk fails to say it.
 pub fn put_words<D: Desk>(words: &[Word], piece: &mut Piece, desk: &mut D) -> Result<(), Failed>
     ensures { Says D.files D.said D.faults desk.old desk.new result (pending piece.old) (pending piece.new) (further_text words.now) }
 {
@@ -44,6 +56,10 @@ pub fn put_words<D: Desk>(words: &[Word], piece: &mut Piece, desk: &mut D) -> Re
 }
 
 /// Puts out a line: a word, and further words, each behind a space.
+///
+/// # Errors
+///
+/// `Failed` if the desk fails to say it.
 pub fn put_line<D: Desk>(
     first: &[u8],
     further: &[Word],

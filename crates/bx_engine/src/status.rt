@@ -29,11 +29,11 @@ pub enum Status {
 pub enum InputFault {
     /// The file is longer than is read.
     TooLong(Which),
-    /// The text has no tokens.
+    /// The text can't be cut into tokens: its first bad byte, open comment or open attribute.
     Lex(LexFault),
     /// The tokens are no module, or nest too deep.
     Read(ReadFault),
-    /// The module has no net.
+    /// Something is wrong with the module's ports, drivers or names, as `NetFault` says.
     Net(NetFault),
     /// The net isn't of a form that is laid out yet.
     NotBuilt,
@@ -49,7 +49,9 @@ pub enum WordFault {
 /// A file or output that a fault is about.
 #[derive(Clone, Copy, Debug, PartialEq, Eq)]
 pub enum Which {
+    /// The file of the module, which the words name.
     NetFile,
+    /// What the run says.
     Output,
 }
 

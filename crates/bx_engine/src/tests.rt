@@ -13,7 +13,7 @@ fn words(alloc: Global, line: &str) -> Result<Vec<String>, NoMemory> {
     Ok(words)
 }
 
-// A desk with one file and room for any report.
+// A desk with one file, and room for the reports of these tests.
 fn desk_with(alloc: Global, text: &[u8]) -> Result<MemDesk, NoMemory> {
     let mut desk = MemDesk::new(alloc);
     desk.put("net.v", text)?;

@@ -1,5 +1,8 @@
-use Rattle.bx_engine.proofs.Clauses.{there, refused_only, refused, found_only, found, found_said, layout, write_fault_said}
+use Rattle.bx_engine.proofs.Clauses.{answer_said, there, refused_only, refused, found_only, found, found_said, layout, write_fault_said}
 use Rattle.bx_engine.proofs.engine.run.Goals as goal
+
+pub returns-clause-answered : goal.returns-clause-answered
+returns-clause-answered g c = answer_said c.args.words.now (g.D.Desk.files c.args.desk.now) (g.D.Desk.said c.args.desk.now) (g.D.Desk.said c.serve.new.desk) (g.D.Desk.faults c.args.desk.now) (g.D.Desk.faults c.serve.new.desk) c.serve.result c.serve.ensures.outcome
 
 pub returns-clause-refused_only : goal.returns-clause-refused_only
 returns-clause-refused_only g c = refused_only c.args.words.now (g.D.Desk.files c.args.desk.now) (g.D.Desk.said c.args.desk.now) (g.D.Desk.said c.serve.new.desk) (g.D.Desk.faults c.args.desk.now) (g.D.Desk.faults c.serve.new.desk) c.serve.result c.serve.ensures.outcome

@@ -6,12 +6,11 @@ use Rattle.bx_logic.specs.declared.driver.Driver.{Driver}
 use Rattle.bx_logic.specs.declared.driver.Driver.TheVariants.{Input, Gate}
 use Rattle.bx_logic.specs.Nets.{Netlist, driver_at, output_names}
 use Rattle.bx_verilog.specs.Formulas.{Text}
-use Rattle.bx_engine.specs.declared.chain.TheConstants.{MOST_INVERSIONS}
 
 -- how many inversions a layout may have: with its input and its output these are 96 nodes, the most that
 -- a mapped network may have
 abbrev pub most_inversions : ℕ
-most_inversions = MOST_INVERSIONS
+most_inversions = 94
 
 -- from this net the walk comes to input 0, over so many inversions
 pub data LeadsToInput (drivers : List Driver) : ℕ → ℕ → Type 0 where

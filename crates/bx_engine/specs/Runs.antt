@@ -5,7 +5,6 @@ use Rattle.std.specs.Str.{bytes_eq}
 use Rattle.bx_logic.specs.Nets.{Netlist}
 use Rattle.bx_desk.specs.Desk.{Files}
 use Rattle.bx_lex.specs.Tokens.{TokenList, HasTokens, HasFault}
-use Rattle.bx_syntax.specs.declared.expression.TheConstants.{DEEPEST}
 use Rattle.bx_syntax.specs.declared.fault.ReadFault.TheVariants.{NoMemory}
 use Rattle.bx_syntax.specs.Parts.{ModuleTree}
 use Rattle.bx_syntax.specs.Terminals.{terminals_of}
@@ -15,7 +14,6 @@ use Rattle.bx_verilog.specs.Faults.{IsAccepted, IsFault}
 use Rattle.bx_verilog.specs.Equations.{Module}
 use Rattle.bx_verilog.specs.Elaboration.{net_of}
 use Rattle.bx_engine.specs.declared.grid.Ratio.{Ratio}
-use Rattle.bx_engine.specs.declared.design.TheConstants.{MODULE_BYTES}
 use Rattle.bx_engine.specs.declared.grid.TheConstants.{DEFAULT_LIMITS}
 use Rattle.bx_engine.specs.Chains.{IsChain}
 use Rattle.bx_engine.specs.Grids.{FormGrid, Pins, IsFormGrid, IsSound, ArePins, Computes}
@@ -42,21 +40,25 @@ module _ {A : Type 0} where
   abbrev pub net_text : List (String A) → Option Files → Option Text
   net_text words told = option_and_then (λ net. option_and_then (λ files. files net) told) (net_word words)
 
+-- the most bytes that a module's file may have
+abbrev pub most_bytes : ℕ
+most_bytes = 1048576
+
 -- a text that isn't too long to be read
 abbrev pub IsShort : Text → Type 0
-IsShort text = length text ≤ MODULE_BYTES
+IsShort text = length text ≤ most_bytes
 
--- the text of a module: its tokens are in the grammar with this tree, and nothing nests too deep
+-- the text of a module: its tokens are in the grammar with this tree, and nothing nests deeper than 256
 pub record IsText (text : Text) (m : ModuleTree) : Type 0 where
   pub found : TokenList
   pub tokens : HasTokens text found
-  pub is_module : IsModule DEEPEST m (terminals_of text found.tokens)
+  pub is_module : IsModule 256 m (terminals_of text found.tokens)
 
 -- a text with tokens that are no module's, or nest too deep
 pub record IsNoModule (text : Text) : Type 0 where
   pub found : TokenList
   pub tokens : HasTokens text found
-  pub no_module : (m : ModuleTree) → IsModule DEEPEST m (terminals_of text found.tokens) → ⊥
+  pub no_module : (m : ModuleTree) → IsModule 256 m (terminals_of text found.tokens) → ⊥
 
 -- the text of a module that is accepted, and whose net is no chain
 pub record IsNotBuilt (text : Text) : Type 0 where
@@ -67,7 +69,7 @@ pub record IsNotBuilt (text : Text) : Type 0 where
 
 -- the text is refused for this; which fault of reading it is, isn't claimed
 abbrev pub IsRefused : Text → InputFault → Type 0
-IsRefused text (TooLong which) = (which ≡ NetFile) × (MODULE_BYTES < length text)
+IsRefused text (TooLong which) = (which ≡ NetFile) × (most_bytes < length text)
 IsRefused text (Lex fault) = IsShort text × HasFault text fault
 IsRefused text (Read fault) = IsShort text × IsNoModule text × (fault ≢ NoMemory)
 IsRefused text (Net fault) = IsShort text × ((m : ModuleTree) × IsText text m × IsFault m fault)

@@ -1,11 +1,11 @@
 -- A module for each fault, which has it as its first.
-use Rattle.std.specs.Prelude.{List, [], ◌∷◌, map, codes, None}
+use Rattle.std.specs.Prelude.{List, [], ◌∷◌, map, codes, Some, None}
 use Rattle.bx_logic.specs.declared.op.Op.TheVariants.{And, Not}
 use Rattle.bx_syntax.specs.declared.tree.Direction.TheVariants.{Input, Output}
 use Rattle.bx_syntax.specs.declared.tree.Operator.TheVariants.{And as AndSign}
 use Rattle.bx_syntax.specs.declared.tree.Port.{Port}
-use Rattle.bx_syntax.specs.Trees.{net, joined, done}
-use Rattle.bx_syntax.specs.Parts.{PartTree, declaration, assign, gate, copies, ModuleTree}
+use Rattle.bx_syntax.specs.Trees.{net, inverse, joined, done}
+use Rattle.bx_syntax.specs.Parts.{PartTree, declaration, wire, assign, gate, copies, ModuleTree}
 use Rattle.bx_verilog.specs.Formulas.{Text}
 
 -- a port of the header without a direction
@@ -43,3 +43,17 @@ cycle = from_a_to_y (
     ∷ copies Not (codes "q" ∷ []) (net (codes "p"))
     ∷ []
     )
+
+-- `module m(b, a, output y); input a; input b; wire w; assign y = ~q & ~p; endmodule`
+abbrev pub ordered : ModuleTree
+ordered = record {
+  name = codes "m";
+  ports = bare (codes "b") ∷ bare (codes "a") ∷ (record { name = codes "y"; direction = Some Output }) ∷ [];
+  items = map (λ part. part ∷ []) (
+      declaration Input (codes "a")
+      ∷ declaration Input (codes "b")
+      ∷ wire (codes "w") None
+      ∷ assign (codes "y") (joined (inverse (net (codes "q"))) AndSign (inverse (net (codes "p"))) done)
+      ∷ []
+      );
+}

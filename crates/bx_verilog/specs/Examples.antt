@@ -92,3 +92,14 @@ accepted_net =
     ∷ Gate And (0 ∷ 5 ∷ [])
     ∷ []
     )
+
+-- `module m(b, a, y); input a; input b; output y; wire w; assign y = ~q & ~p; endmodule`
+abbrev pub ordered : ModuleTree
+ordered = example (codes "b" ∷ codes "a" ∷ codes "y" ∷ []) (
+    declaration Input (codes "a")
+    ∷ declaration Input (codes "b")
+    ∷ declaration Output (codes "y")
+    ∷ wire (codes "w") None
+    ∷ assign (codes "y") (joined (inverse (net (codes "q"))) AndSign (inverse (net (codes "p"))) done)
+    ∷ []
+    )

@@ -14,6 +14,7 @@ ghost use Rattle.bx_verilog.specs.Mentions.{count, inputs, is_driven, names, num
 
 pub mod existence;
 pub mod expressions;
+pub mod ports;
 
 /// A module has one meaning: a net, or a first fault.
 pub fn one_meaning()

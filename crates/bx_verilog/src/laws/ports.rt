@@ -1,0 +1,39 @@
+//! Laws of what stands where: ports, names and nets have the order of the text, and what is given is
+//! given once. Nothing here runs.
+ghost use Rattle.std.specs.Prelude.{◌≡◌, ◌≤◌, ◌+◌, Bool, false, [], ◌∷◌, codes};
+ghost use Rattle.bx_logic.specs.Nets.{netlist};
+ghost use Rattle.bx_logic.specs.declared.driver.Driver.TheVariants.{Input, Constant, Gate};
+ghost use Rattle.bx_logic.specs.declared.op.Op.TheVariants.{And, Buf, Not};
+ghost use Rattle.bx_syntax.specs.Parts.{ModuleTree};
+ghost use Rattle.bx_verilog.specs.Elaboration.{net_of};
+ghost use Rattle.bx_verilog.specs.Equations.{Assignment, Gives, Module};
+ghost use Rattle.bx_verilog.specs.Examples.{ordered};
+ghost use Rattle.bx_verilog.specs.Faults.{HasPorts};
+ghost use Rattle.bx_verilog.specs.Formulas.{Text};
+ghost use Rattle.bx_verilog.specs.Mentions.{count, inputs, is_directed, is_header, names, outputs};
+
+/// A module gives a name one value at most.
+pub fn a_name_is_given_one_value()
+    ensures { (m : Module) (a : Assignment) (n : Text) (b c : Bool) → Gives m a n b → Gives m a n c → b ≡ c }
+{}
+
+/// Where the ports are good, a name that stands in the header or has a direction does both, and once.
+pub fn a_port_has_one_direction()
+    ensures { (m : ModuleTree) → HasPorts m → (n : Text) → 1 ≤ count is_header m n + count is_directed m n → (count is_header m n ≡ 1) × (count is_directed m n ≡ 1) }
+{}
+
+/// Ports have the order of the header, wherever their directions stand.
+pub fn ports_have_the_order_of_the_header()
+    ensures inputs { inputs ordered ≡ codes "b" ∷ codes "a" ∷ [] }
+    ensures outputs { outputs ordered ≡ codes "y" ∷ [] }
+{}
+
+/// Names are numbered where they stand first, a bare wire's too.
+pub fn names_have_the_order_of_the_text()
+    ensures { names ordered ≡ codes "b" ∷ codes "a" ∷ codes "y" ∷ codes "w" ∷ codes "q" ∷ codes "p" ∷ [] }
+{}
+
+/// Behind the nets of the names stand the others, operands before what joins them.
+pub fn nets_have_the_order_of_the_text()
+    ensures { net_of ordered ≡ netlist (codes "m") (codes "b" ∷ codes "a" ∷ []) ((codes "y", 2) ∷ []) (Input 0 ∷ Input 1 ∷ Gate Buf (8 ∷ []) ∷ Constant false ∷ Constant false ∷ Constant false ∷ Gate Not (4 ∷ []) ∷ Gate Not (5 ∷ []) ∷ Gate And (6 ∷ 7 ∷ []) ∷ []) }
+{}

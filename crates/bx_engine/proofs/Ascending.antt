@@ -1,6 +1,6 @@
 -- Lists that ascend by a relation, through the functions that make a list of another. Membership by recursion
 -- is bx_verilog's.
-use Rattle.std.proofs.Common.{◌≡◌, ℕ, zero, suc, ◌+◌, ◌<◌, ◌≤◌, ◌⊎◌, Bool, true, false, cond, List, [], ◌∷◌, ◌++◌, map, filter, flat_map, length, get_or, Contains, AllPairs, inl, inr, refl, sym, ap, ◌∙◌, subst, arith}
+use Rattle.std.proofs.Common.{◌≡◌, ℕ, zero, suc, ◌+◌, ◌<◌, ◌≤◌, ◌⊎◌, Bool, true, false, cond, List, [], ◌∷◌, ◌++◌, map, filter, flat_map, length, get_or, AllPairs, inl, inr, refl, subst, arith}
 use Rattle.std.specs.Prelude.{⊤}
 use Rattle.std.specs.List.{AllByRecursion, range_with_len}
 pub use Rattle.bx_verilog.proofs.Membership.{Member, Contains-from_member, Member-from_get_or, Member-from_contains, Member-append_left, Member-append_right, Member-append_cases, Member-filter_cases, Member-filter, Member-map, Member-map_cases, Member-flat_map, Member-flat_map_cases, AllByRecursion-from_member, member_of_AllByRecursion, Member-splits}

@@ -1,11 +1,7 @@
-//! Laws of what stands where: ports, names and nets have the order of the text, and what is given is
-//! given once. Nothing here runs.
-ghost use Rattle.std.specs.Prelude.{◌≡◌, ◌≤◌, ◌+◌, Bool, false, [], ◌∷◌, codes};
-ghost use Rattle.bx_logic.specs.Nets.{netlist};
-ghost use Rattle.bx_logic.specs.declared.driver.Driver.TheVariants.{Input, Constant, Gate};
-ghost use Rattle.bx_logic.specs.declared.op.Op.TheVariants.{And, Buf, Not};
+//! Laws of ports and names: they have the order of the text, and what is given is given once. Nothing
+//! here runs.
+ghost use Rattle.std.specs.Prelude.{◌≡◌, ◌≤◌, ◌+◌, Bool, [], ◌∷◌, codes};
 ghost use Rattle.bx_syntax.specs.Parts.{ModuleTree};
-ghost use Rattle.bx_verilog.specs.Elaboration.{net_of};
 ghost use Rattle.bx_verilog.specs.Equations.{Assignment, Gives, Module};
 ghost use Rattle.bx_verilog.specs.Examples.{ordered};
 ghost use Rattle.bx_verilog.specs.Faults.{HasPorts};
@@ -31,9 +27,4 @@ pub fn ports_have_the_order_of_the_header()
 /// Names are numbered where they stand first, a bare wire's too.
 pub fn names_have_the_order_of_the_text()
     ensures { names ordered ≡ codes "b" ∷ codes "a" ∷ codes "y" ∷ codes "w" ∷ codes "q" ∷ codes "p" ∷ [] }
-{}
-
-/// Behind the nets of the names stand the others, operands before what joins them.
-pub fn nets_have_the_order_of_the_text()
-    ensures { net_of ordered ≡ netlist (codes "m") (codes "b" ∷ codes "a" ∷ []) ((codes "y", 2) ∷ []) (Input 0 ∷ Input 1 ∷ Gate Buf (8 ∷ []) ∷ Constant false ∷ Constant false ∷ Constant false ∷ Gate Not (4 ∷ []) ∷ Gate Not (5 ∷ []) ∷ Gate And (6 ∷ 7 ∷ []) ∷ []) }
 {}

@@ -51,76 +51,78 @@ fn values(rt: &impl Abort, alloc: Global, net: &Net, bits: &[bool]) -> Result<Ve
     Ok(out)
 }
 
+// What stands behind `module m`, and the first fault of the module: its kind, and the name that has it.
+const FAULTS: [(&str, &str, &str); 17] = [
+    (
+        "(a, y); input a; output y; assign y=a; not(y,a);",
+        "two drivers",
+        "y",
+    ),
+    (
+        "(a, y); input a; output y; assign y=a; not(p,q); not(q,p);",
+        "cycle",
+        "p",
+    ),
+    (
+        "(a, y); input a; output y; assign y = a & k;",
+        "no driver",
+        "k",
+    ),
+    ("(a, y); input a; output y;", "no driver", "y"),
+    ("(a,a); input a;", "bad port", "a"),
+    ("(a); input a;", "no output", ""),
+    (
+        "(a, y); input a; output y; and (y, a, p); not (p, q); not (q, p);",
+        "cycle",
+        "p",
+    ),
+    (
+        "(a, y); input a; output y; wire q; assign y = a; not (p, q); not (q, p);",
+        "cycle",
+        "q",
+    ),
+    (
+        "(a, y); input a; output y; assign y = a, a = y;",
+        "two drivers",
+        "a",
+    ),
+    ("(a, y); input a; output y; assign y = y;", "cycle", "y"),
+    (
+        "(a, y); input a; output a, y; assign y = a;",
+        "bad port",
+        "a",
+    ),
+    ("(a, y); input a; assign y = a;", "bad port", "y"),
+    (
+        "(a, y); input a; output y; input b; assign y = a;",
+        "bad port",
+        "b",
+    ),
+    (
+        "(input a, output y); input a; assign y = a;",
+        "bad port",
+        "a",
+    ),
+    (
+        "(a, y); input a; output y; wire w; assign y = a | w;",
+        "no driver",
+        "w",
+    ),
+    (
+        "(a, y); input a; output y; buf (y, p, a), (p, y);",
+        "two drivers",
+        "p",
+    ),
+    (
+        "(a, y); input a; output y; wire w = ~w; assign y = a;",
+        "cycle",
+        "w",
+    ),
+];
+
 #[test]
 fn the_first_fault_is_answered(rt: HostRuntime) -> Result<(), Fail> {
-    let table: [(&str, &str, &str); 17] = [
-        (
-            "(a, y); input a; output y; assign y=a; not(y,a);",
-            "two drivers",
-            "y",
-        ),
-        (
-            "(a, y); input a; output y; assign y=a; not(p,q); not(q,p);",
-            "cycle",
-            "p",
-        ),
-        (
-            "(a, y); input a; output y; assign y = a & k;",
-            "no driver",
-            "k",
-        ),
-        ("(a, y); input a; output y;", "no driver", "y"),
-        ("(a,a); input a;", "bad port", "a"),
-        ("(a); input a;", "no output", ""),
-        (
-            "(a, y); input a; output y; and (y, a, p); not (p, q); not (q, p);",
-            "cycle",
-            "p",
-        ),
-        (
-            "(a, y); input a; output y; wire q; assign y = a; not (p, q); not (q, p);",
-            "cycle",
-            "q",
-        ),
-        (
-            "(a, y); input a; output y; assign y = a, a = y;",
-            "two drivers",
-            "a",
-        ),
-        ("(a, y); input a; output y; assign y = y;", "cycle", "y"),
-        (
-            "(a, y); input a; output a, y; assign y = a;",
-            "bad port",
-            "a",
-        ),
-        ("(a, y); input a; assign y = a;", "bad port", "y"),
-        (
-            "(a, y); input a; output y; input b; assign y = a;",
-            "bad port",
-            "b",
-        ),
-        (
-            "(input a, output y); input a; assign y = a;",
-            "bad port",
-            "a",
-        ),
-        (
-            "(a, y); input a; output y; wire w; assign y = a | w;",
-            "no driver",
-            "w",
-        ),
-        (
-            "(a, y); input a; output y; buf (y, p, a), (p, y);",
-            "two drivers",
-            "p",
-        ),
-        (
-            "(a, y); input a; output y; wire w = ~w; assign y = a;",
-            "cycle",
-            "w",
-        ),
-    ];
-    for (item, kind, name) in &table {
+    for (item, kind, name) in &FAULTS {
         let text = format!(in rt.alloc(); "module m{item} endmodule")?;
         match read(rt.alloc(), &text)? {
             Ok(_) => return Err("something is wrong with the module".into()),
@@ -134,99 +136,101 @@ fn the_first_fault_is_answered(rt: HostRuntime) -> Result<(), Fail> {
     Ok(())
 }
 
+// What stands behind `module m`, values of its inputs, and the values of its outputs.
+const VALUES: [(&str, &[bool], &[bool]); 19] = [
+    (
+        "(a, b, c, y); input a, b, c; output y; nand (y, a, b, c);",
+        &[true, true, false],
+        &[true],
+    ),
+    (
+        "(a, b, c, y); input a, b, c; output y; nand (y, a, b, c);",
+        &[true, true, true],
+        &[false],
+    ),
+    (
+        "(a, b, c, y); input a, b, c; output y; xnor (y, a, b, c);",
+        &[true, true, false],
+        &[true],
+    ),
+    (
+        "(a, b, c, y); input a, b, c; output y; xnor (y, a, b, c);",
+        &[true, false, false],
+        &[false],
+    ),
+    ("(a, y); input a; output y; assign y = a;", &[true], &[true]),
+    (
+        "(a, y); input a; output y; wire w = ~a; assign y = w;",
+        &[true],
+        &[false],
+    ),
+    (
+        "(a, y); input a; output y; assign y = a ^ 1'b1;",
+        &[true],
+        &[false],
+    ),
+    ("(y); output y; assign y = 1'b1;", &[], &[true]),
+    (
+        "(a, b, y); input a, b; output y; assign y = ~a & b;",
+        &[false, false],
+        &[false],
+    ),
+    // `&` before `^` and `~^`, and these before `|`: each row has another value in another order.
+    (
+        "(a, b, c, d, e, y); input a, b, c, d, e; output y; assign y = a | b & c ^ d ~^ e;",
+        &[true, false, false, false, true],
+        &[true],
+    ),
+    (
+        "(a, b, c, d, e, y); input a, b, c, d, e; output y; assign y = a | b & c ^ d ~^ e;",
+        &[true, false, false, true, true],
+        &[true],
+    ),
+    (
+        "(a, b, c, d, e, y); input a, b, c, d, e; output y; assign y = a | b & c ^ d ~^ e;",
+        &[false, false, false, true, true],
+        &[true],
+    ),
+    (
+        "(a, b, c, d, e, y); input a, b, c, d, e; output y; assign y = a | b & c ^ d ~^ e;",
+        &[false, true, true, true, true],
+        &[false],
+    ),
+    (
+        "(a, b, c, y); input a, b, c; output y; assign y = (a | b) & c;",
+        &[true, false, false],
+        &[false],
+    ),
+    (
+        "(a, b, y, z); input a, b; output y, z; not (y, z, a & b);",
+        &[true, false],
+        &[true, true],
+    ),
+    (
+        "(a, y, z); input a; output y, z; buf (y, z, a);",
+        &[true],
+        &[true, true],
+    ),
+    (
+        "(y, b, z, a); input a, b; output y, z; assign z = a, y = b;",
+        &[true, false],
+        &[true, false],
+    ),
+    (
+        "(output y, input a); assign y = w; wire w; nor (w, a, a);",
+        &[false],
+        &[true],
+    ),
+    (
+        "(a, y); input a; output y; wire unused; assign y = a; or (\\z+ , a, y);",
+        &[false],
+        &[false],
+    ),
+];
+
 #[test]
 fn nets_give_what_their_texts_say(rt: HostRuntime) -> Result<(), Fail> {
-    let table: [(&str, &[bool], &[bool]); 19] = [
-        (
-            "(a, b, c, y); input a, b, c; output y; nand (y, a, b, c);",
-            &[true, true, false],
-            &[true],
-        ),
-        (
-            "(a, b, c, y); input a, b, c; output y; nand (y, a, b, c);",
-            &[true, true, true],
-            &[false],
-        ),
-        (
-            "(a, b, c, y); input a, b, c; output y; xnor (y, a, b, c);",
-            &[true, true, false],
-            &[true],
-        ),
-        (
-            "(a, b, c, y); input a, b, c; output y; xnor (y, a, b, c);",
-            &[true, false, false],
-            &[false],
-        ),
-        ("(a, y); input a; output y; assign y = a;", &[true], &[true]),
-        (
-            "(a, y); input a; output y; wire w = ~a; assign y = w;",
-            &[true],
-            &[false],
-        ),
-        (
-            "(a, y); input a; output y; assign y = a ^ 1'b1;",
-            &[true],
-            &[false],
-        ),
-        ("(y); output y; assign y = 1'b1;", &[], &[true]),
-        (
-            "(a, b, y); input a, b; output y; assign y = ~a & b;",
-            &[false, false],
-            &[false],
-        ),
-        // `&` before `^` and `~^`, and these before `|`: each row has another value in another order.
-        (
-            "(a, b, c, d, e, y); input a, b, c, d, e; output y; assign y = a | b & c ^ d ~^ e;",
-            &[true, false, false, false, true],
-            &[true],
-        ),
-        (
-            "(a, b, c, d, e, y); input a, b, c, d, e; output y; assign y = a | b & c ^ d ~^ e;",
-            &[true, false, false, true, true],
-            &[true],
-        ),
-        (
-            "(a, b, c, d, e, y); input a, b, c, d, e; output y; assign y = a | b & c ^ d ~^ e;",
-            &[false, false, false, true, true],
-            &[true],
-        ),
-        (
-            "(a, b, c, d, e, y); input a, b, c, d, e; output y; assign y = a | b & c ^ d ~^ e;",
-            &[false, true, true, true, true],
-            &[false],
-        ),
-        (
-            "(a, b, c, y); input a, b, c; output y; assign y = (a | b) & c;",
-            &[true, false, false],
-            &[false],
-        ),
-        (
-            "(a, b, y, z); input a, b; output y, z; not (y, z, a & b);",
-            &[true, false],
-            &[true, true],
-        ),
-        (
-            "(a, y, z); input a; output y, z; buf (y, z, a);",
-            &[true],
-            &[true, true],
-        ),
-        (
-            "(y, b, z, a); input a, b; output y, z; assign z = a, y = b;",
-            &[true, false],
-            &[true, false],
-        ),
-        (
-            "(output y, input a); assign y = w; wire w; nor (w, a, a);",
-            &[false],
-            &[true],
-        ),
-        (
-            "(a, y); input a; output y; wire unused; assign y = a; or (\\z+ , a, y);",
-            &[false],
-            &[false],
-        ),
-    ];
-    for (item, bits, wanted) in &table {
+    for (item, bits, wanted) in &VALUES {
         let text = format!(in rt.alloc(); "module m{item} endmodule")?;
         let net = net(rt.alloc(), &text)?;
         let found = values(&rt, rt.alloc(), &net, *bits)?;

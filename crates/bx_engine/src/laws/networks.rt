@@ -1,11 +1,13 @@
 //! What holds of mapped networks, and of the network of a chain. Each law is the clause of a function
 //! that does nothing; how a network is found from a module is left to others.
 
-ghost use Rattle.std.specs.Prelude.{◌≡◌, ◌≢◌, ℕ, ◌+◌, ◌<◌, ◌≤◌, ◌↔◌, min, Bool, false, not, ◌&&◌, ◌||◌, IsTrue, List, [], ◌∷◌};
+ghost use Rattle.std.specs.Prelude.{◌≡◌, ◌≢◌, ℕ, ◌+◌, ◌<◌, ◌≤◌, ◌↔◌, min, Bool, false, not, ◌&&◌, ◌||◌, IsTrue, List, [], ◌∷◌, length};
 ghost use Rattle.bx_engine.specs.declared.grid.Ratio.{Ratio};
 ghost use Rattle.bx_engine.specs.declared.grid.Limits.{Limits};
 ghost use Rattle.bx_engine.specs.declared.forms.Kind.TheVariants.{Input, Output, Not, Fan, And, Or, Nand, Nor, Xor, Xnor};
 ghost use Rattle.bx_engine.specs.Networks.{Network, Edge, IsNetwork, kind_value, IsValuation, IsDown, IsUp};
+ghost use Rattle.bx_verilog.specs.Equations.{Module};
+ghost use Rattle.bx_engine.specs.Meanings.{NetworkComputes};
 ghost use Rattle.bx_engine.specs.BranchingNetworks.{branching_network};
 ghost use Rattle.bx_engine.specs.ChainNetworks.{chain_network, link, input_node, not_node, output_node, inverted};
 ghost use Rattle.bx_engine.specs.Orders.{IsWithin};
@@ -52,6 +54,13 @@ pub fn what_nodes_give()
 /// Two `not` that feed each other are no mapped network.
 pub fn a_ring_is_no_network()
     ensures { ¬ IsNetwork (record { nodes = not_node ∷ not_node ∷ []; edges = link 0 ∷ (record (link 1) { target = 0 }) ∷ [] }) }
+{}
+
+/// Without an output node a network computes no module that has an output, and with two for one output it
+/// computes none.
+pub fn each_output_has_its_one_node()
+    ensures missing { (m : Module) → 0 < length m.outputs → ¬ NetworkComputes (record { nodes = input_node ∷ []; edges = [] }) m }
+    ensures twice { (m : Module) (edges : List Edge) → ¬ NetworkComputes (record { nodes = input_node ∷ output_node ∷ output_node ∷ []; edges = edges }) m }
 {}
 
 /// A network in which a value meets its own inversion in an `and`. Of the two ways to the `and` the

@@ -7,6 +7,7 @@ use Rattle.std.proofs.lemmas.List.Elements.{recursion_from_All, All-contains_its
 use Rattle.std.proofs.lemmas.Map.Steps.{length-le_from_distinct_below}
 use Rattle.bx_logic.specs.declared.driver.Driver.{Driver}
 use Rattle.bx_logic.specs.Nets.{arguments_of, driver_at, Reads, DependsOn, directly, through, IsAcyclic}
+use Rattle.bx_logic.specs.Cycles.{ReadsNetsOnly}
 
 pub all-weaker : {X : Type 0} (P Q : X → Type 0) → ((x : X) → P x → Q x) → (xs : List X) → AllByRecursion P xs → AllByRecursion Q xs
 all-weaker P Q h [] a = tt
@@ -15,6 +16,10 @@ all-weaker P Q h (x ∷ xs) a = (h x a.0, all-weaker P Q h xs a.1)
 both : (P Q : ℕ → Type 0) (xs : List ℕ) → AllByRecursion P xs → AllByRecursion Q xs → AllByRecursion (λ x. P x × Q x) xs
 both P Q [] a b = tt
 both P Q (x ∷ xs) a b = ((a.0, b.0), both P Q xs a.1 b.1)
+
+pub arguments-read : (drivers : List Driver) (n : ℕ) → AllByRecursion (λ m. Reads drivers n m) (arguments_of (driver_at drivers n))
+arguments-read drivers n =
+    recursion_from_All (λ m. Reads drivers n m) (arguments_of (driver_at drivers n)) (All-contains_itself (arguments_of (driver_at drivers n)))
 
 -- what each net is to have after so many steps
 pub unroll : {X : Type 0} → X → (ℕ → (ℕ → X) → X) → ℕ → ℕ → X
@@ -68,7 +73,7 @@ all-apart drivers acyclic m (x ∷ xs) a = (
 )
 
 -- the trail of a net that is read, with that net before it
-longer : (drivers : List Driver) → IsAcyclic drivers → ((n m : ℕ) → Reads drivers n m → m < length drivers) →
+longer : (drivers : List Driver) → IsAcyclic drivers → ReadsNetsOnly drivers →
     (k n m : ℕ) → Reads drivers n m → Trail drivers k m → Trail drivers (suc k) n
 unfolding IsDistinct
 longer drivers acyclic within k n m reads trail = record {
@@ -94,7 +99,7 @@ all_or P G (x ∷ xs) a =
       ]
     ]
 
-settled_or_trail : (drivers : List Driver) → IsAcyclic drivers → ((n m : ℕ) → Reads drivers n m → m < length drivers) →
+settled_or_trail : (drivers : List Driver) → IsAcyclic drivers → ReadsNetsOnly drivers →
     (k n : ℕ) → IsSettled drivers k n ⊎ Trail drivers k n
 unfolding IsSettled IsDistinct
 settled_or_trail drivers acyclic within zero n = inr (record { nets = []; long = refl; below = tt; apart = tt; within = tt })
@@ -106,9 +111,9 @@ settled_or_trail drivers acyclic within (suc k) n =
       | inr trail ↦ inr (longer drivers acyclic within k n m reads trail)
     ])
     (arguments_of (driver_at drivers n))
-    (recursion_from_All (λ m. Reads drivers n m) (arguments_of (driver_at drivers n)) (All-contains_itself (arguments_of (driver_at drivers n)))))
+    (arguments-read drivers n))
 
-pub settled : (drivers : List Driver) → IsAcyclic drivers → ((n m : ℕ) → Reads drivers n m → m < length drivers) →
+pub settled : (drivers : List Driver) → IsAcyclic drivers → ReadsNetsOnly drivers →
     (n : ℕ) → IsSettled drivers (suc (length drivers)) n
 settled drivers acyclic within n =
     elim (settled_or_trail drivers acyclic within (suc (length drivers)) n) [
@@ -121,7 +126,7 @@ settled drivers acyclic within n =
 
 -- what each net has in the end is what the step gives it of that
 pub unrolled : {X : Type 0} (x : X) (step : ℕ → (ℕ → X) → X) (drivers : List Driver) → IsLocal drivers step → IsAcyclic drivers →
-    ((n m : ℕ) → Reads drivers n m → m < length drivers) → (n : ℕ) →
+    ReadsNetsOnly drivers → (n : ℕ) →
     unroll x step (suc (length drivers)) n ≡ step n (unroll x step (suc (length drivers)))
 unfolding unroll
 unrolled x step drivers local acyclic within n =
@@ -129,7 +134,7 @@ unrolled x step drivers local acyclic within n =
 
 -- two functions that the step gives on each net are the same there
 pub same_unrolled : {X : Type 0} (step : ℕ → (ℕ → X) → X) (drivers : List Driver) → IsLocal drivers step →
-    ((n m : ℕ) → Reads drivers n m → m < length drivers) → (f g : ℕ → X) →
+    ReadsNetsOnly drivers → (f g : ℕ → X) →
     ((n : ℕ) → n < length drivers → f n ≡ step n f) → ((n : ℕ) → n < length drivers → g n ≡ step n g) →
     (k n : ℕ) → n < length drivers → IsSettled drivers k n → f n ≡ g n
 unfolding IsSettled IsLocal
@@ -140,5 +145,5 @@ same_unrolled step drivers local within f g is_f is_g (suc k) n l h =
     (λ m s. same_unrolled step drivers local within f g is_f is_g k m (within n m s.0) s.1)
     (arguments_of (driver_at drivers n))
     (both (λ m. Reads drivers n m) (λ m. IsSettled drivers k m) (arguments_of (driver_at drivers n))
-    (recursion_from_All (λ m. Reads drivers n m) (arguments_of (driver_at drivers n)) (All-contains_itself (arguments_of (driver_at drivers n)))) h))
+    (arguments-read drivers n) h))
     ∙ sym (is_g n l)

@@ -1,5 +1,7 @@
 pub mod Acyclic
 pub mod Valuations
+pub mod Behaviours
+pub mod Inverters
 pub mod Tallies
 pub mod Ways
 pub mod Ascending

@@ -5,17 +5,14 @@ use Rattle.std.proofs.lemmas.Bool.{cases_lt}
 use Rattle.std.proofs.lemmas.List.{length-map, take_all, ext_get_or, get_or_past}
 use Rattle.std.proofs.lemmas.List.FromFn.{length-map-range_with_len, get_or-map-range_with_len}
 use Rattle.std.proofs.lemmas.List.Sums.{sum_by-cons}
-use Rattle.std.proofs.lemmas.List.Elements.{All-contains, recursion_from_All, All-contains_itself, All-get_or}
+use Rattle.std.proofs.lemmas.List.Elements.{All-contains, All-get_or}
 use Rattle.bx_logic.specs.declared.driver.Driver.{Driver}
 use Rattle.bx_logic.specs.declared.driver.Driver.TheVariants.{Input, Constant, Gate}
 use Rattle.bx_logic.specs.Op.{op_value}
 use Rattle.bx_logic.specs.Nets.{arguments_of, driver_at, Reads, IsAcyclic, IsDriver, Netlist, IsNet, output_nets}
 use Rattle.bx_logic.specs.Values.{value_of, driver_value, IsNetValuation, IsOnlyNetValuation, AreOutputValues}
-use Rattle.bx_logic.proofs.Acyclic.{all-weaker, unroll, IsLocal, settled, unrolled, same_unrolled}
-
--- each net reads nets of the list
-abbrev pub ReadsWithin : List Driver → Type 0
-ReadsWithin drivers = (n m : ℕ) → Reads drivers n m → m < length drivers
+use Rattle.bx_logic.specs.Cycles.{ReadsNetsOnly}
+use Rattle.bx_logic.proofs.Acyclic.{all-weaker, arguments-read, unroll, IsLocal, settled, unrolled, same_unrolled}
 
 driver-reads_within : (inputs nets : ℕ) (d : Driver) → IsDriver inputs nets d → All (λ m. m < nets) (arguments_of d)
 driver-reads_within inputs nets (Input i) h = λ k d l. absurd (omega arith)
@@ -31,7 +28,7 @@ driver-at inputs drivers h n =
       | inr past ↦ rw get_or_past tt
     ]
 
-pub reads_within : (inputs : ℕ) (drivers : List Driver) → All (IsDriver inputs (length drivers)) drivers → ReadsWithin drivers
+pub reads_within : (inputs : ℕ) (drivers : List Driver) → All (IsDriver inputs (length drivers)) drivers → ReadsNetsOnly drivers
 reads_within inputs drivers h n m reads =
     All-contains (λ m. m < length drivers) (arguments_of (driver_at drivers n)) m
     (driver-reads_within inputs (length drivers) (driver_at drivers n) (driver-at inputs drivers h n)) reads
@@ -69,7 +66,7 @@ cost_step-local drivers n f g a = ap (λ s. 2 + s) (same_sum f g (arguments_of (
 pub cost : List Driver → ℕ → ℕ
 cost drivers = unroll 0 (cost_step drivers) (suc (length drivers))
 
-pub cost-is : (drivers : List Driver) → IsAcyclic drivers → ReadsWithin drivers → (n : ℕ) →
+pub cost-is : (drivers : List Driver) → IsAcyclic drivers → ReadsNetsOnly drivers → (n : ℕ) →
     cost drivers n ≡ 2 + sum_by (cost drivers) (arguments_of (driver_at drivers n))
 unfolding cost cost_step
 cost-is drivers acyclic within n = unrolled 0 (cost_step drivers) drivers (cost_step-local drivers) acyclic within n
@@ -77,7 +74,7 @@ cost-is drivers acyclic within n = unrolled 0 (cost_step drivers) drivers (cost_
 the_value : List Driver → List Bool → ℕ → Bool
 the_value drivers bits = unroll false (value_step drivers bits) (suc (length drivers))
 
-the_value-is : (drivers : List Driver) (bits : List Bool) → IsAcyclic drivers → ReadsWithin drivers → (n : ℕ) →
+the_value-is : (drivers : List Driver) (bits : List Bool) → IsAcyclic drivers → ReadsNetsOnly drivers → (n : ℕ) →
     the_value drivers bits n ≡ driver_value bits (the_value drivers bits) (driver_at drivers n)
 unfolding the_value value_step
 the_value-is drivers bits acyclic within n =
@@ -91,21 +88,17 @@ the_values-at : (drivers : List Driver) (bits : List Bool) (n : ℕ) → n < len
 unfolding the_values
 the_values-at drivers bits n h = get_or-map-range_with_len (the_value drivers bits) 0 (length drivers) n n false h (omega arith)
 
-all-reads : (drivers : List Driver) (n : ℕ) → AllByRecursion (λ m. Reads drivers n m) (arguments_of (driver_at drivers n))
-all-reads drivers n =
-    recursion_from_All (λ m. Reads drivers n m) (arguments_of (driver_at drivers n)) (All-contains_itself (arguments_of (driver_at drivers n)))
-
-the_values-is : (drivers : List Driver) (bits : List Bool) → IsAcyclic drivers → ReadsWithin drivers → IsNetValuation drivers bits (the_values drivers bits)
+the_values-is : (drivers : List Driver) (bits : List Bool) → IsAcyclic drivers → ReadsNetsOnly drivers → IsNetValuation drivers bits (the_values drivers bits)
 unfolding the_values
 the_values-is drivers bits acyclic within = record {
   whole = length-map-range_with_len (the_value drivers bits) 0 (length drivers);
   each = λ n h. the_values-at drivers bits n h ∙ the_value-is drivers bits acyclic within n
       ∙ driver_value-local bits (the_value drivers bits) (value_of (the_values drivers bits)) (driver_at drivers n)
       (all-weaker (λ m. Reads drivers n m) (λ m. the_value drivers bits m ≡ value_of (the_values drivers bits) m)
-      (λ m reads. sym (the_values-at drivers bits m (within n m reads))) (arguments_of (driver_at drivers n)) (all-reads drivers n));
+      (λ m reads. sym (the_values-at drivers bits m (within n m reads))) (arguments_of (driver_at drivers n)) (arguments-read drivers n));
 }
 
-valuation-only : (drivers : List Driver) (bits values others : List Bool) → IsAcyclic drivers → ReadsWithin drivers →
+valuation-only : (drivers : List Driver) (bits values others : List Bool) → IsAcyclic drivers → ReadsNetsOnly drivers →
     IsNetValuation drivers bits values → IsNetValuation drivers bits others → others ≡ values
 unfolding value_step
 valuation-only drivers bits values others acyclic within v o =
@@ -113,7 +106,7 @@ valuation-only drivers bits values others acyclic within v o =
     (λ i h. same_unrolled (value_step drivers bits) drivers (value_step-local drivers bits) within (value_of others) (value_of values)
     (λ n l. o.each n l) (λ n l. v.each n l) (suc (length drivers)) i (omega (arith, o.whole)) (settled drivers acyclic within i))
 
-pub only_valuation : (drivers : List Driver) (bits : List Bool) → IsAcyclic drivers → ReadsWithin drivers →
+pub only_valuation : (drivers : List Driver) (bits : List Bool) → IsAcyclic drivers → ReadsNetsOnly drivers →
     IsOnlyNetValuation drivers bits (the_values drivers bits)
 only_valuation drivers bits acyclic within =
     let is = the_values-is drivers bits acyclic within in
@@ -122,17 +115,18 @@ only_valuation drivers bits acyclic within =
       only = λ others o. valuation-only drivers bits (the_values drivers bits) others acyclic within is o;
     }
 
-pub net-reads_within : (net : Netlist) → IsNet net → ReadsWithin net.drivers
+pub net-reads_within : (net : Netlist) → IsNet net → ReadsNetsOnly net.drivers
 net-reads_within net h = reads_within (length net.inputs) net.drivers h.drivers
 
 -- where all outputs were read in every valuation
-pub all_read : (net : Netlist) (bits outputs : List Bool) (j : ℕ) → IsNet net → length net.outputs ≤ j →
+pub all_read : (net : Netlist) (bits outputs : List Bool) (j : ℕ) → IsNet net → length bits ≡ length net.inputs → length net.outputs ≤ j →
     ((values : List Bool) → IsNetValuation net.drivers bits values → outputs ≡ map (value_of values) (take j (output_nets net))) →
     AreOutputValues net bits outputs
-all_read net bits outputs j h l read =
+all_read net bits outputs j h given l read =
     let only = only_valuation net.drivers bits h.acyclic (net-reads_within net h) in
     let length_is = length-map net.outputs (λ (output : List ℕ × ℕ). output.1) in
     record {
+      inputs = given;
       values = the_values net.drivers bits;
       valuation = only;
       read = read (the_values net.drivers bits) only.is

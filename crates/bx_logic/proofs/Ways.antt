@@ -12,8 +12,9 @@ use Rattle.bx_logic.specs.declared.eval.Frame.{Frame}
 use Rattle.bx_logic.specs.Nets.{arguments_of, driver_at, IsAcyclic}
 use Rattle.bx_logic.specs.Values.{value_of, driver_value, IsNetValuation}
 use Rattle.bx_logic.specs.Known.{known_at, IsKnown, known_value, IsRight, KeepsKnown, frame_for}
+use Rattle.bx_logic.specs.Cycles.{ReadsNetsOnly}
 use Rattle.bx_logic.proofs.Acyclic.{all-weaker}
-use Rattle.bx_logic.proofs.Valuations.{ReadsWithin, driver_value-local, cost, cost-is}
+use Rattle.bx_logic.proofs.Valuations.{driver_value-local, cost, cost-is}
 
 abbrev pub first_net : List Frame → Option ℕ
 first_net [] = None
@@ -155,13 +156,13 @@ frame_cost drivers f = 1 + sum_by (cost drivers) (drop f.next (arguments_of (dri
 pub way_cost : List Driver → List Frame → ℕ
 way_cost drivers fs = sum_by (frame_cost drivers) fs
 
-entered_cost-by : (drivers : List Driver) (n : ℕ) → IsAcyclic drivers → ReadsWithin drivers → (b : Bool) →
+entered_cost-by : (drivers : List Driver) (n : ℕ) → IsAcyclic drivers → ReadsNetsOnly drivers → (b : Bool) →
     way_cost drivers (if b then [] else record { net = n; next = 0 } ∷ []) < cost drivers n
 unfolding way_cost frame_cost
 entered_cost-by drivers n acyclic within true = let e = cost-is drivers acyclic within n in omega (arith, e)
 entered_cost-by drivers n acyclic within false = let e = cost-is drivers acyclic within n in omega (arith, e)
 
-pub way_cost-advance : (drivers : List Driver) (known : List (Option Bool)) (fs : List Frame) (n p : ℕ) → IsAcyclic drivers → ReadsWithin drivers →
+pub way_cost-advance : (drivers : List Driver) (known : List (Option Bool)) (fs : List Frame) (n p : ℕ) → IsAcyclic drivers → ReadsNetsOnly drivers →
     p < length (arguments_of (driver_at drivers n)) →
     way_cost drivers (fs ++ record { net = n; next = p + 1 } ∷ frame_for known (get_or (arguments_of (driver_at drivers n)) p 0))
     < way_cost drivers (fs ++ record { net = n; next = p } ∷ [])
@@ -189,7 +190,7 @@ pub record IsStep (drivers : List Driver) (later : List (Option Bool)) (before a
 
 -- the last frame looks at one net more
 pub step-advance : (drivers : List Driver) (known : List (Option Bool)) (before rest pushed after : List Frame) (f : Frame) (args : List ℕ) (a first : ℕ) →
-    IsAcyclic drivers → ReadsWithin drivers → before ≡ rest ++ f ∷ [] → args ≡ arguments_of (driver_at drivers f.net) →
+    IsAcyclic drivers → ReadsNetsOnly drivers → before ≡ rest ++ f ∷ [] → args ≡ arguments_of (driver_at drivers f.net) →
     f.next < length args → a ≡ get_or args f.next 0 →
     pushed ≡ rest ++ record { net = f.net; next = f.next + 1 } ∷ [] → after ≡ pushed ++ frame_for known a →
     IsWay drivers known before → IsAwaited known before first → IsStep drivers known before after first

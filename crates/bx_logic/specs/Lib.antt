@@ -1,6 +1,8 @@
 pub mod Op
 pub mod Nets
 pub mod Values
+pub mod Behaviours
+pub mod Inverters
 pub mod Known
 pub mod Ascending
 pub mod Cycles

@@ -28,11 +28,11 @@ pub data DependsOn (drivers : List Driver) : ℕ → ℕ → Type 0 where
 abbrev pub IsAcyclic : List Driver → Type 0
 IsAcyclic drivers = (n : ℕ) → DependsOn drivers n n → ⊥
 
--- `Buf` and `Not` have one argument
+-- `Buf` and `Not` have one argument, and each other operation has at least one
 abbrev pub HasArity : Op → List ℕ → Type 0
 HasArity Buf args = length args ≡ 1
 HasArity Not args = length args ≡ 1
-HasArity _ args = Unit {0}
+HasArity _ args = 0 < length args
 
 -- a driver reads nets among so many, has the number of one of so many inputs, and as many arguments
 -- as its operation takes

@@ -1,4 +1,4 @@
--- What an operation gives for the values of its arguments, of which there is at least one.
+-- What an operation gives for the values of its arguments. A net's gate has at least one.
 use Rattle.std.specs.Prelude.{Bool, true, false, not, ◌&&◌, ◌||◌, if◌then◌else◌, List, [], ◌∷◌}
 use Rattle.bx_logic.specs.declared.op.Op.{Op}
 use Rattle.bx_logic.specs.declared.op.Op.TheVariants.{Buf, Not, And, Or, Nand, Nor, Xor, Xnor}

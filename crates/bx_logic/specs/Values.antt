@@ -29,8 +29,9 @@ pub record IsOnlyNetValuation (drivers : List Driver) (bits values : List Bool) 
 abbrev pub output_values : Netlist → List Bool → List Bool
 output_values net values = map (value_of values) (output_nets net)
 
--- each output has the value of its net in the one valuation
+-- there is a value for each input, and each output has the value of its net in the one valuation
 pub record AreOutputValues (net : Netlist) (bits outputs : List Bool) : Type 0 where
+  pub inputs : length bits ≡ length net.inputs
   pub values : List Bool
   pub valuation : IsOnlyNetValuation net.drivers bits values
   pub read : outputs ≡ output_values net values

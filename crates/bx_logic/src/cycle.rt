@@ -11,23 +11,40 @@ use crate::components::{arguments_at, component_ranks};
 use crate::{Driver, NoMemory};
 use std::alloc::Global;
 
-/// Whether each of these nets has at most this rank.
-fn all_at_most(ranks: &[u32], nets: &[u32], rank: u32) -> bool
-    requires { All (λ m. m < length ranks.now) nets.now }
-    ensures { IsTrue result ↔ All (λ m. slice_index ranks.now m ≤ rank) nets.now }
+/// The least-numbered net that depends on itself, if one does.
+pub fn least_net_on_cycle(alloc: Global, drivers: &[Driver]) -> Result<Option<u32>, NoMemory>
+    requires few { length drivers.now < 4294967296 }
+    requires reads { ReadsNetsOnly drivers.now }
+    ensures least { IfOk result (λ found. MatchOption found (IsAcyclic drivers.now) (λ net. IsLeastOnCycle drivers.now net)) }
+    ensures within { IfOk result (λ found. IfSome found (λ net. net < length drivers.now)) }
 {
-    nets.iter().all(|net| ranks[*net as usize] <= rank)
+    let ranks = component_ranks(alloc, drivers)?;
+    for net in ranked_until(drivers, &ranks)..drivers.len() as u32 {
+        if is_on_cycle(alloc, drivers, net)? {
+            return Ok(Some(net));
+        }
+    }
+    Ok(None)
 }
 
-/// Whether each of these nets has a smaller rank.
-fn all_below(ranks: &[u32], nets: &[u32], rank: u32) -> bool
-    requires { All (λ m. m < length ranks.now) nets.now }
-    ensures { IsTrue result ↔ All (λ m. slice_index ranks.now m < rank) nets.now }
+// How many nets from the first on the ranks show not to depend on themselves: where no net reads one
+// of a greater rank, no way leads back to a net that reads smaller ranks alone.
+fn ranked_until(drivers: &[Driver], ranks: &[u32]) -> u32
+    requires few { length drivers.now < 4294967296 }
+    requires reads { ReadsNetsOnly drivers.now }
+    requires ranks { length ranks.now ≡ length drivers.now }
+    ensures within { result ≤ length drivers.now }
+    ensures acyclic { (n : ℕ) → n < result → DependsOn drivers.now n n → ⊥ }
+    ensures level { NeverRises drivers.now ranks.now → result < length drivers.now → FallsFrom drivers.now ranks.now result → ⊥ }
 {
-    nets.iter().all(|net| ranks[*net as usize] < rank)
+    if never_rises(drivers, ranks) {
+        first_level(drivers, ranks)
+    } else {
+        0
+    }
 }
 
-/// Whether no net reads one of a greater rank.
+// Whether no net reads one of a greater rank.
 fn never_rises(drivers: &[Driver], ranks: &[u32]) -> bool
     requires few { length drivers.now < 4294967296 }
     requires reads { ReadsNetsOnly drivers.now }
@@ -42,7 +59,15 @@ fn never_rises(drivers: &[Driver], ranks: &[u32]) -> bool
     true
 }
 
-/// The first net that reads one of no smaller rank, or the number of nets.
+// Whether each of these nets has at most this rank.
+fn all_at_most(ranks: &[u32], nets: &[u32], rank: u32) -> bool
+    requires { All (λ m. m < length ranks.now) nets.now }
+    ensures { IsTrue result ↔ All (λ m. slice_index ranks.now m ≤ rank) nets.now }
+{
+    nets.iter().all(|net| ranks[*net as usize] <= rank)
+}
+
+// The first net that reads one of no smaller rank, or the number of nets.
 fn first_level(drivers: &[Driver], ranks: &[u32]) -> u32
     requires few { length drivers.now < 4294967296 }
     requires reads { ReadsNetsOnly drivers.now }
@@ -60,24 +85,15 @@ fn first_level(drivers: &[Driver], ranks: &[u32]) -> u32
     nets
 }
 
-/// How many nets from the first on the ranks show not to depend on themselves: where no net reads one
-/// of a greater rank, no way leads back to a net that reads smaller ranks alone.
-fn ranked_until(drivers: &[Driver], ranks: &[u32]) -> u32
-    requires few { length drivers.now < 4294967296 }
-    requires reads { ReadsNetsOnly drivers.now }
-    requires ranks { length ranks.now ≡ length drivers.now }
-    ensures within { result ≤ length drivers.now }
-    ensures acyclic { (n : ℕ) → n < result → DependsOn drivers.now n n → ⊥ }
-    ensures level { NeverRises drivers.now ranks.now → result < length drivers.now → FallsFrom drivers.now ranks.now result → ⊥ }
+// Whether each of these nets has a smaller rank.
+fn all_below(ranks: &[u32], nets: &[u32], rank: u32) -> bool
+    requires { All (λ m. m < length ranks.now) nets.now }
+    ensures { IsTrue result ↔ All (λ m. slice_index ranks.now m < rank) nets.now }
 {
-    if never_rises(drivers, ranks) {
-        first_level(drivers, ranks)
-    } else {
-        0
-    }
+    nets.iter().all(|net| ranks[*net as usize] < rank)
 }
 
-/// Whether a net depends on itself: each net that it depends on is visited once.
+// Whether a net depends on itself: each net that it depends on is visited once.
 fn is_on_cycle(alloc: Global, drivers: &[Driver], start: u32) -> Result<bool, NoMemory>
     requires reads { ReadsNetsOnly drivers.now }
     requires start { start < length drivers.now }
@@ -95,22 +111,6 @@ fn is_on_cycle(alloc: Global, drivers: &[Driver], start: u32) -> Result<bool, No
     Ok(seen[start as usize])
 }
 
-/// The least-numbered net that depends on itself, if one does.
-pub fn least_net_on_cycle(alloc: Global, drivers: &[Driver]) -> Result<Option<u32>, NoMemory>
-    requires few { length drivers.now < 4294967296 }
-    requires reads { ReadsNetsOnly drivers.now }
-    ensures least { IfOk result (λ found. MatchOption found (IsAcyclic drivers.now) (λ net. IsLeastOnCycle drivers.now net)) }
-    ensures within { IfOk result (λ found. IfSome found (λ net. net < length drivers.now)) }
-{
-    let ranks = component_ranks(alloc, drivers)?;
-    for net in ranked_until(drivers, &ranks)..drivers.len() as u32 {
-        if is_on_cycle(alloc, drivers, net)? {
-            return Ok(Some(net));
-        }
-    }
-    Ok(None)
-}
-
 #[cfg(test)]
 mod tests {
     use super::*;
@@ -118,7 +118,7 @@ mod tests {
     use std::process::Abort;
     use std::test::Fail;
 
-    /// A gate that reads these nets, or a constant where there are none.
+    // A gate that reads these nets, or a constant where there are none.
     fn driver(alloc: Global, arguments: &[u32]) -> Result<Driver, NoMemory> {
         if arguments.is_empty() {
             return Ok(Driver::Constant(false));
@@ -126,7 +126,7 @@ mod tests {
         Ok(Driver::Gate(Op::And, Args::new(arguments.to_vec(alloc)?)))
     }
 
-    /// Nets that read these.
+    // Nets that read these.
     fn nets(alloc: Global, rows: &[&[u32]]) -> Result<Vec<Driver>, NoMemory> {
         let mut drivers = Vec::new(alloc);
         for row in rows {
@@ -135,7 +135,7 @@ mod tests {
         Ok(drivers)
     }
 
-    /// So many nets, of which each reads the next one and the last reads these.
+    // So many nets, of which each reads the next one and the last reads these.
     fn chain(alloc: Global, count: u32, last: &[u32]) -> Result<Vec<Driver>, NoMemory> {
         let mut drivers = Vec::new(alloc);
         for next in 1..count {
@@ -145,7 +145,7 @@ mod tests {
         Ok(drivers)
     }
 
-    /// So many nets, of which each reads those whose bits are set among its own as many bits.
+    // So many nets, of which each reads those whose bits are set among its own as many bits.
     fn nets_of_bits(alloc: Global, count: u32, bits: u64) -> Result<Vec<Driver>, NoMemory> {
         let mut drivers = Vec::new(alloc);
         let mut bits = bits;
@@ -179,7 +179,7 @@ mod tests {
         true
     }
 
-    /// The answer, to which the ranks lead with no walk from any net before it.
+    // The answer, to which the ranks lead with no walk from any net before it.
     fn least(rt: &impl Abort, alloc: Global, drivers: &[Driver]) -> Result<Option<u32>, Fail> {
         assert!(rt; drivers.len() < 4294967296);
         assert!(rt; reads_nets_only(drivers));

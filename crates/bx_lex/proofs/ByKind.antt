@@ -3,7 +3,7 @@ use Rattle.std.proofs.Common.{cond, not, false, [], ◌∷◌, ◌≡◌, ℕ, �
 use Rattle.std.specs.Prelude.{All}
 use Rattle.std.specs.List.{prefix_len}
 use Rattle.std.specs.Char.{is_ascii_digit, is_ascii_whitespace}
-use Rattle.std.proofs.lemmas.Bool.{or_cases, eqb-true, eqb-false}
+use Rattle.std.proofs.lemmas.Bool.{and_left, or_cases, or_from, eqb-true, eqb-false}
 use Rattle.std.proofs.lemmas.List.Sums.{prefix_len-le-length, prefix_len_passes, prefix_len_stops}
 use Rattle.std.proofs.lemmas.List.Elements.{All-weaker}
 use Rattle.bx_lex.specs.declared.token.TokenKind.TheVariants.{Word, Escaped, Number, Symbol}
@@ -12,9 +12,9 @@ use Rattle.bx_lex.specs.declared.token.LexFault.TheVariants.{BadByte, OpenCommen
 use Rattle.bx_lex.specs.declared.rules.Piece.{Piece}
 use Rattle.bx_lex.specs.Bytes.{is_word_start, is_word_byte, is_shown, is_symbol}
 use Rattle.bx_lex.specs.Rules.{begins, line_len, gap, lexeme, through, ended, closed_by, number_len, escaped, front, FirstClose, IsFirstClose}
-use Rattle.bx_lex.specs.Kinds.{IsLongestRun, IsTokenOf, IsGap, IsOfKind, IsFaultAt}
+use Rattle.bx_lex.specs.Kinds.{IsLongestRun, is_pair, IsTokenOf, IsGap, IsOfKind, IsFaultAt}
 use Rattle.bx_lex.specs.Tokens.{TokenList, HasTokens, HasFault}
-use Rattle.bx_lex.proofs.Begins.{either, chosen, begins_first}
+use Rattle.bx_lex.proofs.Begins.{either, begins_is, begins_first}
 use Rattle.bx_lex.proofs.Closes.{first_close}
 use Rattle.bx_lex.proofs.Places.{tokens_taken}
 
@@ -28,7 +28,7 @@ known place text p h = record { kind = h; fault = tt }
 fault : (place : ℕ) (text : List ℕ) (f : LexFault) → IsFaultAt place text f → Known place text (Err f)
 fault place text f h = record { kind = tt; fault = h }
 
-run_is : (test : ℕ → Bool) (text : List ℕ) → IsLongestRun test text (prefix_len test text)
+pub run_is : (test : ℕ → Bool) (text : List ℕ) → IsLongestRun test text (prefix_len test text)
 run_is test text = record {
   inside = prefix_len-le-length test text;
   pass = λ k h. prefix_len_passes test text k 0 h;
@@ -51,9 +51,9 @@ comment_known : (place : ℕ) (text : List ℕ) → begins (codes "/*") text ≡
 comment_known place text e =
     ended_known place text (codes "*/") (OpenComment place) (through (codes "*/") (drop 2 text)) (λ h. (refl, (e, h))) (λ n h. inr (inr (inl (e, (n, refl, h))))) (first_close (codes "*/") (drop 2 text) (omega arith))
 
-attribute_known : (place : ℕ) (text : List ℕ) → begins (codes "(*") text ≡ true → Known place text (closed_by (codes "*)") (OpenAttribute place) text)
-attribute_known place text e =
-    ended_known place text (codes "*)") (OpenAttribute place) (through (codes "*)") (drop 2 text)) (λ h. (refl, (e, h))) (λ n h. inr (inr (inr (e, (n, refl, h))))) (first_close (codes "*)") (drop 2 text) (omega arith))
+attribute_known : (place : ℕ) (text : List ℕ) → begins (codes "(*)") text ≡ false → begins (codes "(*") text ≡ true → Known place text (closed_by (codes "*)") (OpenAttribute place) text)
+attribute_known place text three e =
+    ended_known place text (codes "*)") (OpenAttribute place) (through (codes "*)") (drop 2 text)) (λ h. (refl, three, (e, h))) (λ n h. inr (inr (inr (three, (e, (n, refl, h)))))) (first_close (codes "*)") (drop 2 text) (omega arith))
 
 escaped_known : (place : ℕ) (text : List ℕ) → get_or text 0 0 ≡ 92 → Known place text (escaped place text)
 escaped_known place text h =
@@ -63,28 +63,30 @@ escaped_known place text h =
     let same : run ≡ 1 + run - 1 = omega arith in
     known place text (lexeme Escaped (1 + run)) (h, omega (arith, some), subst (IsLongestRun is_shown (drop 1 text)) same (run_is is_shown (drop 1 text))))
 
-opening_is_symbol : (text : List ℕ) → begins (codes "(*)") text ≡ true → is_symbol (get_or text 0 0) ≡ true
+opening_known : (place : ℕ) (text : List ℕ) → begins (codes "(*)") text ≡ true → Known place text (Ok (lexeme Symbol 1))
 unfolding is_symbol
-opening_is_symbol text e = ap is_symbol (begins_first 40 (codes "*)") text e)
+opening_known place text e =
+    known place text (lexeme Symbol 1) (inl (refl, ap is_symbol (begins_first 40 (codes "*)") text e), ap is_pair (begins_is (codes "(*)") text e)))
 
-symbol : (place : ℕ) (text : List ℕ) → is_symbol (get_or text 0 0) ≡ true → Known place text (Ok (lexeme Symbol 1))
-symbol place text e = known place text (lexeme Symbol 1) (inl (refl, e))
+-- the bytes of a symbol of one byte, behind all rules before
+alone : (text : List ℕ) → begins (codes "//") text ≡ false → begins (codes "/*") text ≡ false → begins (codes "(*") text ≡ false → (begins (codes "~^") text || begins (codes "^~") text) ≡ false → is_pair text ≡ false
+alone text line comment attribute pair = or_from _ _ line (or_from _ _ comment (or_from _ _ (and_left _ _ attribute) pair))
 
 front_known : (place : ℕ) (text : List ℕ) → Known place text (front place text)
 unfolding front
 front_known place text =
     let P = Known place text in
     either P (is_ascii_whitespace (get_or text 0 0)) _ _ (λ e. known place text (gap 1) (inl (refl, e)))
-    (λ white. chosen P (begins (codes "//") text) _ _ (λ e. known place text (gap (line_len text)) (inr (inl (e, run_is (λ b. not (b == 10)) text))))
-    (chosen P (begins (codes "/*") text) _ _ (λ e. comment_known place text e)
-    (chosen P (begins (codes "(*)") text) _ _ (λ e. symbol place text (opening_is_symbol text e))
-    (chosen P (begins (codes "(*") text) _ _ (λ e. attribute_known place text e)
-    (either P (is_word_start (get_or text 0 0)) _ _ (λ e. known place text (lexeme Word (prefix_len is_word_byte text)) (e, run_is is_word_byte text))
-    (λ word. chosen P (get_or text 0 0 == 92) _ _ (λ e. escaped_known place text (eqb-true _ 92 e))
-    (either P (is_ascii_digit (get_or text 0 0)) _ _ (λ e. known place text (lexeme Number (number_len text)) (e, refl))
-    (λ digit. chosen P (begins (codes "~^") text || begins (codes "^~") text) _ _ (λ e. known place text (lexeme Symbol 2) (inr (refl, or_cases _ _ e)))
-    (either P (is_symbol (get_or text 0 0)) _ _ (λ e. symbol place text e)
-    (λ other. fault place text (BadByte place) (refl, inr (white, word, digit, other))))))))))))
+    (λ white. either P (begins (codes "//") text) _ _ (λ e. known place text (gap (line_len text)) (inr (inl (e, run_is (λ b. not (b == 10)) text))))
+    (λ line. either P (begins (codes "/*") text) _ _ (λ e. comment_known place text e)
+    (λ comment. either P (begins (codes "(*)") text) _ _ (λ e. opening_known place text e)
+    (λ three. either P (begins (codes "(*") text) _ _ (λ e. attribute_known place text three e)
+    (λ attribute. either P (is_word_start (get_or text 0 0)) _ _ (λ e. known place text (lexeme Word (prefix_len is_word_byte text)) (e, run_is is_word_byte text))
+    (λ word. either P (get_or text 0 0 == 92) _ _ (λ e. escaped_known place text (eqb-true _ 92 e))
+    (λ escape. either P (is_ascii_digit (get_or text 0 0)) _ _ (λ e. known place text (lexeme Number (number_len text)) (e, refl))
+    (λ digit. either P (begins (codes "~^") text || begins (codes "^~") text) _ _ (λ e. known place text (lexeme Symbol 2) (inr (refl, or_cases _ _ e)))
+    (λ pair. either P (is_symbol (get_or text 0 0)) _ _ (λ e. known place text (lexeme Symbol 1) (inl (refl, e, alone text line comment attribute pair)))
+    (λ other. fault place text (BadByte place) (refl, inr (eqb-false _ 92 escape, white, word, digit, other))))))))))))
 
 pub taken_of_kind : (place : ℕ) (text : List ℕ) (p : Piece) → front place text ≡ Ok p → IsOfKind p.kind text p.len
 taken_of_kind place text p e = (subst (Known place text) e (front_known place text)).kind

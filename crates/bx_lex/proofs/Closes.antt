@@ -1,5 +1,5 @@
 -- What closes a comment or an attribute is the first that stands behind.
-use Rattle.std.proofs.Common.{◌≡◌, ℕ, ◌+◌, ◌<◌, true, false, List, [], ◌∷◌, ◌++◌, length, drop, Option, Some, None, option_map, sym, ap, ◌∙◌, arith, length-append}
+use Rattle.std.proofs.Common.{◌≡◌, ℕ, ◌+◌, ◌<◌, true, false, List, [], ◌∷◌, ◌++◌, length, drop, Option, Some, None, option_map, refl, sym, ap, ◌∙◌, arith, length-append}
 use Rattle.bx_lex.specs.Rules.{begins, through, IsFirstClose}
 use Rattle.bx_lex.proofs.Begins.{either, begins_is, is_begins}
 
@@ -24,3 +24,17 @@ first_close close (b ∷ rest) h =
     either (IsFirstClose close (b ∷ rest)) (begins close (b ∷ rest)) (Some (length close)) (option_map (λ n. n + 1) (through close rest))
     (λ e. record { before = []; back = drop (length close) (b ∷ rest); stands = begins_is close (b ∷ rest) e; ends = omega arith; first = λ earlier back k. omega arith })
     (λ e. later close b rest (through close rest) e (first_close close rest h))
+
+-- where the first close is, is one place
+once : (close text : List ℕ) (found other : Option ℕ) → IsFirstClose close text found → IsFirstClose close text other → found ≡ other
+once close text None None h k = refl
+once close text None (Some n) h k = absurd (h k.before k.back k.stands)
+once close text (Some n) None h k = absurd (k h.before h.back h.stands)
+once close text (Some n) (Some m) h k =
+    let here = h.first k.before k.back k.stands in
+    let there = k.first h.before h.back h.stands in
+    let same : n ≡ m = omega (arith, h.ends, k.ends, here, there) in
+    ap Some same
+
+pub through_is : (close text : List ℕ) (found : Option ℕ) → 0 < length close → IsFirstClose close text found → through close text ≡ found
+through_is close text found some h = once close text (through close text) found (first_close close text some) h

@@ -5,4 +5,5 @@ pub mod Sizes
 pub mod Cuts
 pub mod Places
 pub mod ByKind
+pub mod Taken
 pub mod Readings

@@ -1,6 +1,7 @@
 -- What each piece of a text is, in words of its own bytes and not of the order of the rules. A text
--- here begins with the piece, and n is how many bytes the piece has.
-use Rattle.std.specs.Prelude.{◌≡◌, ◌⊎◌, ℕ, ◌+◌, ◌-◌, ◌<◌, ◌≤◌, Bool, true, false, not, ◌==◌, List, length, drop, codes, slice_index, Option, Some, None}
+-- here begins with the piece, and n is how many bytes the piece has. No two of these hold of one text:
+-- each holds exactly where the rule for it is the first that fits.
+use Rattle.std.specs.Prelude.{◌≡◌, ◌≢◌, ◌⊎◌, ℕ, ◌+◌, ◌-◌, ◌<◌, ◌≤◌, Bool, true, false, not, ◌==◌, ◌&&◌, ◌||◌, List, length, drop, codes, slice_index, Option, Some, None}
 use Rattle.std.specs.Char.{is_ascii_digit, is_ascii_whitespace}
 use Rattle.bx_lex.specs.declared.token.TokenKind.{TokenKind}
 use Rattle.bx_lex.specs.declared.token.TokenKind.TheVariants.{Word, Escaped, Number, Symbol}
@@ -15,25 +16,35 @@ pub record IsLongestRun (test : ℕ → Bool) (text : List ℕ) (n : ℕ) : Type
   pub pass : (k : ℕ) → k < n → test (slice_index text k) ≡ true
   pub behind : n < length text → test (slice_index text n) ≡ false
 
+-- The first byte is no symbol by itself: with the next one it opens what is skipped, or is a symbol of
+-- two bytes. `(*)` opens nothing.
+abbrev pub is_pair : List ℕ → Bool
+is_pair text =
+    begins (codes "//") text
+    || (begins (codes "/*") text
+    || ((begins (codes "(*") text && not (begins (codes "(*)") text))
+    || (begins (codes "~^") text || begins (codes "^~") text)))
+
 abbrev pub IsTokenOf : TokenKind → List ℕ → ℕ → Type 0
 IsTokenOf Word text n = (is_word_start (slice_index text 0) ≡ true) × IsLongestRun is_word_byte text n
 IsTokenOf Escaped text n = (slice_index text 0 ≡ 92) × (1 < n) × IsLongestRun is_shown (drop 1 text) (n - 1)
 IsTokenOf Number text n = (is_ascii_digit (slice_index text 0) ≡ true) × (n ≡ number_len text)
 IsTokenOf Symbol text n =
-    ((n ≡ 1) × (is_symbol (slice_index text 0) ≡ true))
+    ((n ≡ 1) × (is_symbol (slice_index text 0) ≡ true) × (is_pair text ≡ false))
     ⊎ ((n ≡ 2) × ((begins (codes "~^") text ≡ true) ⊎ (begins (codes "^~") text ≡ true)))
 
 -- the two bytes that open it, and all up to the end of the first close behind them
 abbrev pub IsClosed : List ℕ → List ℕ → List ℕ → ℕ → Type 0
 IsClosed opening close text n = (begins opening text ≡ true) × ((m : ℕ) × (n ≡ 2 + m) × FirstClose close (drop 2 text) m)
 
--- white space, a comment to the end of the line, a comment with its close, or an attribute
+-- white space, a comment to the end of the line, a comment with its close, or an attribute, which `(*)`
+-- doesn't open
 abbrev pub IsGap : List ℕ → ℕ → Type 0
 IsGap text n =
     ((n ≡ 1) × (is_ascii_whitespace (slice_index text 0) ≡ true))
     ⊎ (((begins (codes "//") text ≡ true) × IsLongestRun (λ b. not (b == 10)) text n)
     ⊎ (IsClosed (codes "/*") (codes "*/") text n
-    ⊎ IsClosed (codes "(*") (codes "*)") text n))
+    ⊎ ((begins (codes "(*)") text ≡ false) × IsClosed (codes "(*") (codes "*)") text n)))
 
 -- a token of its kind, or what stands between tokens
 abbrev pub IsOfKind : Option TokenKind → List ℕ → ℕ → Type 0
@@ -44,7 +55,7 @@ IsOfKind (Some kind) text n = IsTokenOf kind text n
 abbrev pub IsBad : List ℕ → Type 0
 IsBad text =
     ((slice_index text 0 ≡ 92) × (is_shown (slice_index (drop 1 text) 0) ≡ false))
-    ⊎ ((is_ascii_whitespace (slice_index text 0) ≡ false) × (is_word_start (slice_index text 0) ≡ false)
+    ⊎ ((slice_index text 0 ≢ 92) × (is_ascii_whitespace (slice_index text 0) ≡ false) × (is_word_start (slice_index text 0) ≡ false)
     × (is_ascii_digit (slice_index text 0) ≡ false) × (is_symbol (slice_index text 0) ≡ false))
 
 -- what opens it stands there, and nothing behind it closes it
@@ -55,5 +66,5 @@ IsOpen opening close text = (begins opening text ≡ true) × IsFirstClose close
 abbrev pub IsFaultAt : ℕ → List ℕ → LexFault → Type 0
 IsFaultAt place text (BadByte at) = (at ≡ place) × IsBad text
 IsFaultAt place text (OpenComment at) = (at ≡ place) × IsOpen (codes "/*") (codes "*/") text
-IsFaultAt place text (OpenAttribute at) = (at ≡ place) × IsOpen (codes "(*") (codes "*)") text
+IsFaultAt place text (OpenAttribute at) = (at ≡ place) × (begins (codes "(*)") text ≡ false) × IsOpen (codes "(*") (codes "*)") text
 IsFaultAt place text NoMemory = ⊥

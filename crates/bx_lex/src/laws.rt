@@ -1,6 +1,6 @@
 //! Laws about the definitions: a text reads in one way, its tokens stand in order and each by the
 //! first rule, and the first close ends a comment. Nothing here runs.
-ghost use Rattle.std.specs.Prelude.{◌≡◌, ◌-◌, ◌<◌, ℕ, List, length, drop, Result, All};
+ghost use Rattle.std.specs.Prelude.{◌≡◌, ◌-◌, ◌<◌, ◌↔◌, ℕ, List, length, drop, Result, All};
 ghost use Rattle.bx_lex.specs.declared.token.LexFault.{LexFault};
 ghost use Rattle.bx_lex.specs.declared.rules.Piece.{Piece};
 ghost use Rattle.bx_lex.specs.Rules.{front, lexeme, through, IsFirstClose};
@@ -34,11 +34,12 @@ pub fn a_token_is_one_of_its_kind()
     ensures { (text : List ℕ) (found : TokenList) → HasTokens text found → All (λ t. IsTokenOf t.kind (drop t.start text) (t.end - t.start)) found.tokens }
 {}
 
-/// What the first rule that fits takes is what its kind says, and where no rule takes anything, the
-/// fault is what it says, at this very place.
+/// What the first rule that fits takes is what its kind says and nothing else is, so that the order of
+/// the rules doesn't matter. Where no rule takes anything, the fault is what it says, at this very place,
+/// and no other fault is.
 pub fn a_piece_is_what_its_kind_says()
-    ensures taken { (place : ℕ) (text : List ℕ) (p : Piece) → front place text ≡ Ok p → IsOfKind p.kind text p.len }
-    ensures refused { (place : ℕ) (text : List ℕ) (fault : LexFault) → front place text ≡ Err fault → IsFaultAt place text fault }
+    ensures taken { (place : ℕ) (text : List ℕ) (p : Piece) → (front place text ≡ Ok p) ↔ IsOfKind p.kind text p.len }
+    ensures refused { (place : ℕ) (text : List ℕ) (fault : LexFault) → (front place text ≡ Err fault) ↔ IsFaultAt place text fault }
 {}
 
 /// A comment or an attribute ends behind the first close, and is open where there is none.

@@ -8,42 +8,6 @@ use crate::token::{LexFault, Token, TokenKind};
 use crate::tokens::Tokens;
 use std::alloc::Global;
 
-/// Puts the token that stands from `start` to `end` behind the others, if there is one.
-fn put(
-    tokens: &mut Vec<Token>,
-    start: u64,
-    end: u64,
-    kind: Option<TokenKind>,
-) -> Result<(), LexFault>
-    ensures put { IfOk result (λ _. tokens.new.items ≡ tokens.old.items ++ token_at start end kind) }
-    ensures failed { IfErr result (λ fault. fault ≡ LexFault.NoMemory) }
-{
-    if let Some(kind) = kind {
-        tokens
-            .push(Token { start, end, kind })
-            .map_err(|_| LexFault::NoMemory)?;
-    }
-    Ok(())
-}
-
-/// Cuts the text into pieces, from its first byte to its last, and keeps those that are tokens.
-fn cut(alloc: Global, text: &[u8]) -> Result<Vec<Token>, LexFault>
-    ensures found { IfOk result (λ tokens. HasTokens text.now (record { tokens = tokens.items; end = length text.now })) }
-    ensures faults { IfErr result (λ fault. fault ≢ LexFault.NoMemory → HasFault text.now fault) }
-{
-    let mut tokens = Vec::new(alloc);
-    let mut place: u64 = 0;
-    let mut rest = text;
-    while !rest.is_empty() {
-        let piece = rules::front_of(place, rest)?;
-        let end = place + piece.len as u64;
-        put(&mut tokens, place, end, piece.kind)?;
-        place = end;
-        rest = &rest[piece.len..];
-    }
-    Ok(tokens)
-}
-
 /// The tokens of a text, or its first fault.
 ///
 /// # Errors
@@ -61,4 +25,40 @@ pub fn read_tokens(alloc: Global, text: &[u8]) -> Result<Tokens, LexFault>
 {
     let tokens = cut(alloc, text)?;
     Ok(Tokens::new(tokens, text.len() as u64))
+}
+
+// Cuts the text into pieces, from its first byte to its last, and keeps those that are tokens.
+fn cut(alloc: Global, text: &[u8]) -> Result<Vec<Token>, LexFault>
+    ensures found { IfOk result (λ tokens. HasTokens text.now (record { tokens = tokens.items; end = length text.now })) }
+    ensures faults { IfErr result (λ fault. fault ≢ LexFault.NoMemory → HasFault text.now fault) }
+{
+    let mut tokens = Vec::new(alloc);
+    let mut place: u64 = 0;
+    let mut rest = text;
+    while !rest.is_empty() {
+        let piece = rules::front_of(place, rest)?;
+        let end = place + piece.len as u64;
+        put(&mut tokens, place, end, piece.kind)?;
+        place = end;
+        rest = &rest[piece.len..];
+    }
+    Ok(tokens)
+}
+
+// Puts the token that stands from `start` to `end` behind the others, if there is one.
+fn put(
+    tokens: &mut Vec<Token>,
+    start: u64,
+    end: u64,
+    kind: Option<TokenKind>,
+) -> Result<(), LexFault>
+    ensures put { IfOk result (λ _. tokens.new.items ≡ tokens.old.items ++ token_at start end kind) }
+    ensures failed { IfErr result (λ fault. fault ≡ LexFault.NoMemory) }
+{
+    if let Some(kind) = kind {
+        tokens
+            .push(Token { start, end, kind })
+            .map_err(|_| LexFault::NoMemory)?;
+    }
+    Ok(())
 }

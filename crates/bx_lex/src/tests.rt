@@ -4,8 +4,8 @@ use crate::{LexFault, TokenKind, read_tokens};
 use std::alloc::{AllocError, Global};
 use std::test::Fail;
 
-/// Texts and their tokens, each by the letter of its kind with its places, and behind them the length
-/// of the text; or their first fault.
+// Texts and their tokens, each by the letter of its kind with its places, and behind them the length
+// of the text; or their first fault.
 const TEXTS: [(&[u8], &str); 59] = [
     (b"", "=0"),
     (b" \t\n\r\x0c", "=5"),
@@ -77,7 +77,7 @@ const TEXTS: [(&[u8], &str); 59] = [
     ),
 ];
 
-/// What a text reads as, in the letters of the table.
+// What a text reads as, in the letters of the table.
 fn shown(alloc: Global, text: &[u8]) -> Result<String, AllocError> {
     let tokens = match read_tokens(alloc, text) {
         Ok(tokens) => tokens,

@@ -25,7 +25,7 @@ impl Model for Tokens {
 impl Tokens {
     ghost use Rattle.bx_lex.specs.Tokens.{AreSpans};
 
-    /// Tokens that stand in order in a text of this length.
+    // Tokens that stand in order in a text of this length.
     pub(crate) fn new(tokens: Vec<Token>, end: u64) -> Self
         requires { AreSpans 0 tokens.items end }
         ensures { result ≡ record { tokens = tokens.items; end = end } }

@@ -2,12 +2,17 @@
 # built program is kept, and which sources it was built from: the stamp stands in its name, so a
 # program and its stamp come into being by one rename, and no call can see one without the other.
 
+# The line that names the toolchain.
+toolchain_line() {
+    rt version
+}
+
 # One checksum of all that the program is made from: the crates without what rt builds in them,
 # their list, the handles, and the toolchain.
 sources_stamp() (
     cd "$top" || exit
     {
-        rt version &&
+        toolchain_line &&
             find crates -regex 'crates/[^/]*/out' -prune -o -type f -print0 |
             LC_ALL=C sort -z | xargs -0 sha256sum &&
             sha256sum crates.txt HANDLES
@@ -34,19 +39,75 @@ keep_program() {
 }
 
 # Proves and builds the program of the sources as they stand. Of several calls one builds, and the
-# others wait for it.
+# others wait for it. rt proves one crate after the other, lowest first, on as many processors as gain
+# by it.
 build_program() {
-    local stamp=$1 log=$top/out/build.log
-    mkdir -p "$top/out"
-    echo "bestagon: waiting for the program to be proved and built, once for these sources (some minutes); log: $log" >&2
+    local stamp=$1 log=$top/out/build.log builder
+    mkdir -p "$top/out" || return
+    tell "proving and building the program, once for these sources; it takes minutes; log: $log"
     (
         flock 9
         [[ -x $(program_of "$stamp") ]] && exit
         cd "$top/crates/bestagon_cli" || exit
-        if ! rt run -- design data/net.v >"$log" 2>&1 9>&-; then
+        (trap - INT QUIT && exec rt run -- design data/net.v) >"$log" 2>&1 </dev/null 9>&- &
+        builder=$!
+        trap 'kill "$builder"' TERM HUP
+        tell_progress "$builder" "$log"
+        if ! wait "$builder"; then
             echo "bestagon: it could not be built; the log says why" >&2
             exit 1
         fi
-        keep_program "$stamp"
+        keep_program "$stamp" && tell "built in $(minutes "$SECONDS")"
     ) 9>>"$top/out/lock"
+}
+
+# Tells which crate of how many rt is at, when it begins one, and each minute that it takes.
+tell_progress() {
+    local builder=$1 log=$2 crates at='' now said=$SECONDS
+    mapfile -t crates < <(crates_of_program)
+    while kill -0 "$builder" 2>/dev/null; do
+        now=$(sed -n 's/^rt: chose --jobs [0-9]* for //p' "$log" | tail -n 1)
+        if [[ $now != "$at" ]] || (( SECONDS - said >= 60 )); then
+            at=$now said=$SECONDS
+            tell "${at:+crate $(number_of "$at" "${crates[@]}") of ${#crates[@]}, $at; }$(minutes "$SECONDS") so far"
+        fi
+        sleep 0.2
+    done
+}
+
+# The crates that the program is made of, lowest first, as crates.txt has them.
+crates_of_program() {
+    awk '
+        /^[^#]/ { sub(/:/, " "); name = $1; order[++count] = name; below[name] = $0 }
+        END {
+            wanted["bestagon_cli"] = 1
+            for (i = count; i > 0; i--)
+                if (order[i] in wanted) {
+                    words = split(below[order[i]], word)
+                    for (j = 1; j <= words; j++)
+                        wanted[word[j]] = 1
+                }
+            for (i = 1; i <= count; i++)
+                if (order[i] in wanted)
+                    print order[i]
+        }' "$top/crates.txt"
+}
+
+# Which of the further words the first one is.
+number_of() {
+    local word=$1 number=1
+    shift
+    while [[ $# -gt 0 && $1 != "$word" ]]; do
+        number=$((number + 1))
+        shift
+    done
+    echo "$number"
+}
+
+minutes() {
+    printf '%d min %02d s' $(($1 / 60)) $(($1 % 60))
+}
+
+tell() {
+    [[ ${BESTAGON_QUIET-} == 1 ]] || echo "bestagon: $1" >&2
 }

@@ -1,0 +1,5 @@
+pub mod Kinds
+pub mod Sides
+pub mod Forms
+pub mod FormTable
+pub mod FormSets

@@ -1,0 +1,5 @@
+pub mod Members
+pub mod Ascending
+pub mod Orders
+pub mod Prefixes
+pub mod Neighbours

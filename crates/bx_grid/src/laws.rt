@@ -1,0 +1,4 @@
+//! Laws about the definitions alone, each the clause of a function with an empty body, so that a
+//! reader can trust what the contracts say.
+pub mod orders;
+pub mod tiles;

@@ -1,0 +1,3 @@
+pub mod Flats
+pub mod Formulas
+pub mod Propagation

@@ -1,6 +1,6 @@
 -- Lists in one list of items: where each stands, and one more behind them.
-use Rattle.std.proofs.Common.{◌≡◌, ℕ, suc, zero, ◌+◌, ◌-◌, ◌<◌, ◌≤◌, ◌^◌, List, [], ◌∷◌, ◌++◌, length, get_or, take, drop, Some, refl, sym, ap, ◌∙◌, arith, length-append}
-use Rattle.std.proofs.lemmas.List.{drop-append-le, take-append-le, length-drop, take_at, drop_at, append-nil, get_or_default}
+use Rattle.std.proofs.Common.{◌≡◌, ℕ, suc, zero, ◌+◌, ◌-◌, ◌<◌, ◌≤◌, ◌^◌, List, [], ◌∷◌, ◌++◌, length, get_or, take, drop, Some, refl, sym, ap, ◌∙◌, subst, arith, length-append}
+use Rattle.std.proofs.lemmas.List.{drop-append-le, take-append-le, length-drop, take_at, drop_at, append-nil, get_or_default, length-take-le, take-append-drop}
 use Rattle.std.specs.Prelude.{slice_get, slice_range}
 use Rattle.bx_cnf.specs.Flat.{lists_from, AreEnds, IsFlat}
 
@@ -63,3 +63,40 @@ list_pushed lists old_ends ends old_items items more end is flat grown ended sto
     let ascend : AreEnds 0 (old_ends ++ end ∷ []) end = ends_push 0 (length old_items) end old_ends flat.ascend (omega arith) in
     let is_flat : IsFlat ends (length items) = record { ascend = rw (ended, ← stop) ascend; small = omega arith } in
     (is_flat, ap (λ ends. lists_from 0 ends items) ended ∙ ap (lists_from 0 (old_ends ++ end ∷ [])) grown ∙ lists_push 0 end old_ends old_items more flat.ascend (stop ∙ size) ∙ ap (λ lists. lists ++ more ∷ []) is)
+
+-- the place at which a later list begins is behind the start
+later : (start last : ℕ) (ends : List ℕ) (k : ℕ) → AreEnds start ends last → k ≤ length ends → (start ≤ get_or (start ∷ ends) k 0) × (get_or (start ∷ ends) k 0 ≤ last)
+later start last ends zero h le = (omega arith, start_le start last ends h)
+later start last [] (suc k) h le = absurd (omega arith)
+later start last (e ∷ es) (suc k) h le = let rest = later e last es k h.1 (omega arith) in (omega (arith, h.0, rest.0), rest.1)
+
+ends_take : (start last : ℕ) (ends : List ℕ) (k : ℕ) → AreEnds start ends last → k ≤ length ends → AreEnds start (take k ends) (get_or (start ∷ ends) k 0)
+ends_take start last ends zero h le = refl
+ends_take start last [] (suc k) h le = absurd (omega arith)
+ends_take start last (e ∷ es) (suc k) h le = (h.0, ends_take e last es k h.1 (omega arith))
+
+-- a part of the items stays where those behind a place are taken off
+range_kept : {X : Type 0} (items : List X) (start end p : ℕ) → start ≤ end → end ≤ p → p ≤ length items → slice_range (take p items) start end ≡ slice_range items start end
+range_kept items start end p up within le =
+    let size : length (take p items) ≡ p = length-take-le p items le in
+    sym (range_stays (take p items) (drop p items) start end up (omega arith)) ∙ ap (λ xs. slice_range xs start end) (take-append-drop p items)
+
+-- the lists that are left where some are taken off
+lists_take : {X : Type 0} (start : ℕ) (ends : List ℕ) (items : List X) (k : ℕ) → AreEnds start ends (length items) → k ≤ length ends → lists_from start (take k ends) (take (get_or (start ∷ ends) k 0) items) ≡ take k (lists_from start ends items)
+lists_take start ends items zero h le = refl
+lists_take start [] items (suc k) h le = absurd (omega arith)
+lists_take start (e ∷ es) items (suc k) h le =
+    let p : ℕ = get_or (e ∷ es) k 0 in
+    let behind = later e (length items) es k h.1 (omega arith) in
+    ap (λ part. part ∷ lists_from e (take k es) (take p items)) (range_kept items start e p h.0 behind.0 behind.1)
+    ∙ ap (λ rest. slice_range items start e ∷ rest) (lists_take e es items k h.1 (omega arith))
+
+-- what taking the last list off leaves
+pub list_popped : {X : Type 0} (lists : List (List X)) (old_ends ends : List ℕ) (old_items items : List X) (k start : ℕ) → lists_from 0 old_ends old_items ≡ lists → IsFlat old_ends (length old_items) → k ≤ length old_ends → start ≡ get_or (0 ∷ old_ends) k 0 → ends ≡ take k old_ends → items ≡ take start old_items → IsFlat ends (length items) × (lists_from 0 ends items ≡ take k lists)
+list_popped lists old_ends ends old_items items k start is flat le starts kept left =
+    let behind = later 0 (length old_items) old_ends k flat.ascend le in
+    let within : start ≤ length old_items = omega (arith, behind.1) in
+    let size : length items ≡ start = ap length left ∙ length-take-le start old_items within in
+    let ascend : AreEnds 0 (take k old_ends) start = subst (AreEnds 0 (take k old_ends)) (sym starts) (ends_take 0 (length old_items) old_ends k flat.ascend le) in
+    let is_flat : IsFlat ends (length items) = record { ascend = rw (kept, size) ascend; small = omega (arith, flat.small) } in
+    (is_flat, ap (λ ends. lists_from 0 ends items) kept ∙ ap (lists_from 0 (take k old_ends)) left ∙ ap (λ n. lists_from 0 (take k old_ends) (take n old_items)) starts ∙ lists_take 0 old_ends old_items k flat.ascend le ∙ ap (take k) is)

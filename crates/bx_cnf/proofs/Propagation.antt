@@ -1,7 +1,9 @@
 -- Literals and clauses under bits, and what propagation keeps.
-use Rattle.std.proofs.Common.{◌≡◌, ℕ, zero, suc, ◌+◌, ◌<◌, Bool, true, false, cond, List, [], ◌∷◌, ◌++◌, length, get_or, refl, sym, ◌∙◌, ap, subst, inl, inr, arith, length-append}
-use Rattle.std.proofs.lemmas.List.Elements.{All-contains, Contains-append_cases, Contains-append_left, Contains-append_right}
-use Rattle.std.specs.Prelude.{◌⊎◌, ◌↔◌, ℤ, pos, negsuc, not, All, AllPairs, Contains}
+use Rattle.std.proofs.Common.{◌≡◌, ℕ, zero, suc, ◌<◌, Bool, true, false, List, [], ◌∷◌, length, get_or, Some, refl, sym, ◌∙◌, ap, subst, inl, inr, arith}
+use Rattle.std.proofs.lemmas.List.Elements.{All-contains}
+use Rattle.std.proofs.lemmas.Bool.{cases_lt}
+use Rattle.std.proofs.lemmas.Option.{slice_get-get_or}
+use Rattle.std.specs.Prelude.{◌≢◌, slice_get, ◌⊎◌, ◌↔◌, not, All, AllPairs, Contains}
 use Rattle.bx_cnf.specs.Literals.{Literal, IsLiteral, literal_of, number_of, negated, value_of, IsLiteralTrue, IsLiteralFalse}
 use Rattle.bx_cnf.specs.Formulas.{AscendAbove, IsClause, IsClauseTrue}
 use Rattle.bx_cnf.specs.Assignments.{IsFalse, IsClauseFalse, LeavesOne}
@@ -78,22 +80,17 @@ conflict_sound bits trues clause all is_false is_true =
     let (l, has, h) = true_literal bits clause is_true in
     never_both bits l h (false_under bits trues l all (All-contains (IsFalse trues) clause l is_false has))
 
--- an item among others and this one
-among : {X : Type 0} (before after : List X) (x y : X) → Contains (before ++ x ∷ after) y → Contains (before ++ after) y ⊎ (x ≡ y)
-among before after x y has =
-    elim (Contains-append_cases before (x ∷ after) y has) [
-      | inl h ↦ inl (Contains-append_left before after y h)
-      | inr h ↦ first_or_later h.0 h.1 h.2
-    ] where
-      first_or_later : (k : ℕ) → k < length (x ∷ after) → get_or (x ∷ after) k y ≡ y → Contains (before ++ after) y ⊎ (x ≡ y)
-      first_or_later zero within is = inr is
-      first_or_later (suc k) within is = inl (Contains-append_right before after y (k, omega arith, is))
+-- a place is this one or another
+same_or_other : (k place : ℕ) → (k ≡ place) ⊎ (k ≢ place)
+same_or_other k place = elim (cases_lt k place) [ inl lt ↦ inr (λ e. omega arith) | inr le ↦ elim (cases_lt place k) [ inl lt ↦ inr (λ e. omega arith) | inr ge ↦ inl (omega arith) ] ]
 
 pub propagated_sound : (bits : List Bool) (trues clause : List Literal) (l : Literal) → All (IsLiteralTrue bits) trues → LeavesOne trues clause l → IsClauseTrue bits clause → IsLiteralTrue bits l
 propagated_sound bits trues clause l all leaves is_true =
-    let (m, has, h) = true_literal bits clause is_true in
-    let split : Contains (leaves.before ++ l ∷ leaves.after) m = subst (λ c. Contains c m) leaves.split has in
-    elim (among leaves.before leaves.after l m split) [
-      | inl other ↦ absurd (never_both bits m h (false_under bits trues m all (All-contains (IsFalse trues) (leaves.before ++ leaves.after) m leaves.others other)))
-      | inr same ↦ subst (IsLiteralTrue bits) (sym same) h
-    ]
+    let (k, m, within, is, h) = is_true in
+    let stands : slice_get clause k ≡ Some m = slice_get-get_or clause k m within ∙ ap Some is in
+    elim (same_or_other k leaves.place) [
+      | inl same ↦ let e : m ≡ l = by_place clause k leaves.place m l same stands leaves.stands in subst (IsLiteralTrue bits) e h
+      | inr other ↦ absurd (never_both bits m h (false_under bits trues m all (leaves.others k m stands other)))
+    ] where
+      by_place : (c : List Literal) (i j : ℕ) (a b : Literal) → i ≡ j → slice_get c i ≡ Some a → slice_get c j ≡ Some b → a ≡ b
+      by_place c i j a b same at_i at_j = let e : Some a ≡ Some b = sym at_i ∙ ap (slice_get c) same ∙ at_j in cc

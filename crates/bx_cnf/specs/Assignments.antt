@@ -1,5 +1,5 @@
 -- Clauses under literals that are taken to be true, as those of a trail are.
-use Rattle.std.specs.Prelude.{◌≡◌, List, ◌∷◌, ◌++◌, ◌⊎◌, All, Contains}
+use Rattle.std.specs.Prelude.{◌≡◌, ◌≢◌, ℕ, List, Some, slice_get, ◌⊎◌, All, Contains}
 use Rattle.bx_cnf.specs.Literals.{Literal, negated}
 
 -- a literal is false: its negation is among those taken to be true
@@ -14,13 +14,12 @@ IsFree trues l = (Contains trues l → ⊥) × (IsFalse trues l → ⊥)
 abbrev pub IsClauseFalse : List Literal → List Literal → Type 0
 IsClauseFalse trues clause = All (IsFalse trues) clause
 
--- of a clause this literal, standing at one place, isn't false, and all the others are
+-- of a clause this literal, standing at one place, isn't false, and those at all other places are
 pub record LeavesOne (trues clause : List Literal) (l : Literal) : Type 0 where
-  pub before : List Literal
-  pub after : List Literal
-  pub split : clause ≡ before ++ l ∷ after
-  pub others : All (IsFalse trues) (before ++ after)
+  pub place : ℕ
+  pub stands : slice_get clause place ≡ Some l
   pub this : IsFalse trues l → ⊥
+  pub others : (k : ℕ) (m : Literal) → slice_get clause k ≡ Some m → k ≢ place → IsFalse trues m
 
 -- a clause is unit: it leaves one literal, whose variable is free
 abbrev pub IsUnit : List Literal → List Literal → Literal → Type 0

@@ -1,7 +1,7 @@
 //! The store of clauses. It keeps one vector of literals and one of ends, and in its type that each
 //! clause's variables ascend strictly within the formula's.
 ghost use Rattle.std.specs.Prelude.{◌≡◌, ◌++◌, ◌-◌, ◌<◌, ◌≤◌, ◌^◌, ◌↔◌, List, [], ◌∷◌, length, slice_get, Some, OnOk, OnErr, IsTrue, All};
-ghost use Rattle.bx_cnf.specs.Formulas.{IsClauseTrue, AllTrue};
+ghost use Rattle.bx_cnf.specs.Formulas.{IsClause, IsClauseTrue, AllTrue};
 
 use crate::flat::Flat;
 use crate::lit::Lit;
@@ -27,7 +27,7 @@ impl Model for Clauses {
 }
 
 impl Clauses {
-    ghost use Rattle.bx_cnf.specs.Formulas.{IsClause, IsFormula};
+    ghost use Rattle.bx_cnf.specs.Formulas.{IsFormula};
 
     /// A formula of this many variables and no clause. Takes no memory.
     pub fn new(alloc: Global, vars: u32) -> Self
@@ -86,6 +86,22 @@ impl Clauses {
     {
         self.clauses.list(id as usize - 1)
     }
+}
+
+/// Whether literals make a clause over variables 1 to `vars`: their variables are among these, and they
+/// ascend strictly.
+pub fn is_clause(literals: &[Lit], vars: u32) -> bool
+    ensures { IsTrue result ↔ IsClause vars literals.now }
+{
+    let mut last = 0;
+    for lit in literals {
+        let var = lit.var();
+        if var <= last || var > vars {
+            return false;
+        }
+        last = var;
+    }
+    true
 }
 
 /// Whether the bits, one for each variable, make all clauses true.

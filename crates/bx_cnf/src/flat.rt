@@ -1,6 +1,6 @@
 //! A list of lists, kept in one vector of items and one of ends, so that a list more takes no
 //! allocation of its own and the items of neighbours stand side by side.
-ghost use Rattle.std.specs.Prelude.{◌≡◌, ◌++◌, ◌<◌, ◌≤◌, ◌^◌, List, [], ◌∷◌, length, slice_get, slice_index, Some, OnOk, OnErr};
+ghost use Rattle.std.specs.Prelude.{◌≡◌, ◌++◌, ◌-◌, ◌<◌, ◌≤◌, ◌^◌, List, [], ◌∷◌, length, take, slice_get, slice_index, Some, OnOk, OnErr};
 
 use bx_logic::NoMemory;
 use std::alloc::Global;
@@ -82,5 +82,18 @@ impl<T: Copy> Flat<T> {
         self.items.extend_from_slice(list)?;
         self.ends.push(self.items.len() as u32)?;
         Ok(())
+    }
+}
+
+impl<T: Drop> Flat<T> {
+    /// Takes the last list off. Takes no memory.
+    pub fn pop(&mut self)
+        requires { 0 < length self.old }
+        ensures { self.new ≡ take (length self.old - 1) self.old }
+    {
+        let k = self.ends.len() - 1;
+        let start = start_of(&self.ends, k);
+        self.ends.truncate(k);
+        self.items.truncate(start as usize);
     }
 }

@@ -14,6 +14,9 @@ pub mod laws;
 mod lit;
 
 pub use bits::Bits;
-pub use clauses::{Clauses, all_true};
+pub use clauses::{Clauses, all_true, is_clause};
 pub use flat::Flat;
 pub use lit::Lit;
+
+#[cfg(test)]
+mod tests;

@@ -1,6 +1,6 @@
-use Rattle.std.proofs.Common.{◌≡◌, ◌<◌, ◌≤◌, ◌+◌, ◌-◌, length, true, arith, rules, ap, ◌∙◌, Some}
+use Rattle.std.proofs.Common.{◌≡◌, true, arith, rules, ap, ◌∙◌, Some}
 use Rattle.std.specs.Prelude.{slice_get}
-use Rattle.bx_cnf.specs.Formulas.{IsClauseTrue, AllTrue}
+use Rattle.bx_cnf.specs.Formulas.{IsClauseTrue}
 use Rattle.bx_cnf.proofs.Formulas.{true_at, true_more, true_all}
 use Rattle.bx_cnf.proofs.clauses.all_true.Goals as goal
 

@@ -1,5 +1,4 @@
-use Rattle.std.proofs.Common.{◌≡◌, ◌≤◌, ◌<◌, ◌∷◌, List, length, get_or, Some, rules, arith, ap, sym, ◌∙◌}
-use Rattle.std.specs.Prelude.{slice_get, slice_range}
+use Rattle.std.proofs.Common.{◌≡◌, ◌∷◌, get_or, arith, ap, ◌∙◌}
 use Rattle.bx_cnf.proofs.Flats.{sized, list_read}
 use Rattle.bx_cnf.proofs.flat.Flat.list.Goals as goal
 

@@ -1,4 +1,4 @@
-use Rattle.std.proofs.Common.{◌≡◌, ◌++◌, ◌∷◌, [], ◌<◌, ◌^◌, length, rules, arith, ap, ◌∙◌}
+use Rattle.std.proofs.Common.{◌≡◌, ◌++◌, ◌∷◌, [], arith, ap, ◌∙◌}
 use Rattle.bx_cnf.proofs.Flats.{list_pushed}
 use Rattle.bx_cnf.proofs.flat.Flat.push.Goals as goal
 

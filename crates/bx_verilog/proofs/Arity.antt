@@ -14,6 +14,7 @@ use Rattle.bx_syntax.specs.Texts.{IsTree}
 use Rattle.bx_verilog.specs.Formulas.{Text, Formula, formula}
 use Rattle.bx_verilog.specs.Drives.{Drive, drive, drives_of, parts_of, drives}
 use Rattle.bx_verilog.specs.Elaboration.{net_numbers}
+use Rattle.bx_verilog.proofs.OwnNets.{length-net_numbers}
 use Rattle.bx_verilog.proofs.Membership.{Member, Contains-from_member, Member-from_contains, Member-flat_map_cases}
 
 -- it stands somewhere among terminals
@@ -41,12 +42,12 @@ IsFed op xs = (0 < length xs) × ((f : Text → ℕ) (first : ℕ) → HasArity 
 one_argument : (op : Op) (k : ℕ) → HasArity op (k ∷ [])
 one_argument Buf k = refl
 one_argument Not k = refl
-one_argument _ k = tt
+one_argument _ k = omega arith
 
-more_arguments : (op : Op) → op ≢ Buf → op ≢ Not → (ks : List ℕ) → HasArity op ks
-more_arguments Buf a b ks = absurd (a refl)
-more_arguments Not a b ks = absurd (b refl)
-more_arguments _ a b ks = tt
+more_arguments : (op : Op) → op ≢ Buf → op ≢ Not → (ks : List ℕ) → 0 < length ks → HasArity op ks
+more_arguments Buf a b ks l = absurd (a refl)
+more_arguments Not a b ks l = absurd (b refl)
+more_arguments _ a b ks l = l
 
 one-fed : (op : Op) (x : Formula) → IsFed op (x ∷ [])
 one-fed op x = (omega arith, λ f first. one_argument op _)
@@ -66,9 +67,11 @@ this-fed ns op xs h d (inr e) = absurd e
 module _ (limit : ℕ) where
   gate-fed : (op : Op) (p : PartTree) (ts rest : List Terminal) → IsGate limit op p ts rest → IsPartFed p
   gate-fed op (gate o n es) ts rest (same, no_buf, no_not, (a, b, c, d, opens, name, comma, listed, closes)) =
+      let some = map-some es (listed-some (IsExpr limit) es c d listed) in
       this-fed (n ∷ []) o (map formula es) (
-        map-some es (listed-some (IsExpr limit) es c d listed),
-        λ f first. more_arguments o (λ e. no_buf (sym same ∙ e)) (λ e. no_not (sym same ∙ e)) (net_numbers f first (map formula es)),
+        some,
+        λ f first. more_arguments o (λ e. no_buf (sym same ∙ e)) (λ e. no_not (sym same ∙ e)) (net_numbers f first (map formula es))
+            (omega (arith, some, length-net_numbers f first (map formula es))),
       )
   gate-fed op (copies o ns e) ts rest h = this-fed ns o (formula e ∷ []) (one-fed o (formula e))
   gate-fed op (declaration d n) ts rest h = absurd h

@@ -20,11 +20,10 @@ use Rattle.bx_verilog.specs.Formulas.{Text, Formula, named, constant, negation, 
 use Rattle.bx_verilog.specs.Drives.{Drive, drives}
 use Rattle.bx_verilog.specs.Mentions.{count, is_driven, names, number}
 use Rattle.bx_verilog.specs.Faults.{HasTwoDrivers, IsDriven, IsFree, IsLeast, IsOnCycle, Reads as NameReads, DependsOn as NameDependsOn, directly as name_directly, through as name_through}
-use Rattle.bx_verilog.specs.Elaboration.{own, all_own, net_number, net_numbers, name_count, driver_of, net_of}
+use Rattle.bx_verilog.specs.Elaboration.{inner_size, own, all_own, net_number, net_numbers, name_count, driver_of, net_of}
 use Rattle.bx_verilog.proofs.Driving.{drive-mention, read-mention, driver-of-target, driver-cases, IsGateOf}
-use Rattle.bx_verilog.proofs.InnerNets.{drives_own, FormulaLies, FormulasLie, constant-lies, negation-lies, pair-lies, formulas-lie, arguments-lie, inner-net, named-driver}
-use Rattle.bx_verilog.proofs.Members.{Contains-nil, Contains-here, Contains-there, Contains-cases}
-use Rattle.bx_verilog.proofs.Membership.{Member-from_contains, Member-splits}
+use Rattle.bx_verilog.proofs.InnerNets.{FormulaLies, FormulasLie, constant-lies, negation-lies, pair-lies, formulas-lie, arguments-lie, inner-net, named-driver}
+use Rattle.bx_verilog.proofs.Membership.{Member-from_contains, Member-splits, Contains-nil, Contains-here, Contains-there, Contains-cases}
 use Rattle.bx_verilog.proofs.Numbering.{mentioned, number-at, number-of, number-within}
 
 -- the only item
@@ -106,7 +105,7 @@ module _ (m : ModuleTree) where
   reads-depends n other once r =
       let d = r.drive in
       let place = Member-splits d (drives m) (Member-from_contains d (drives m) r.among) in
-      let first = name_count m + drives_own place.0 in
+      let first = name_count m + inner_size place.0 in
       let few : count is_driven m n ≤ 1 = elim (cases_lt (count is_driven m n) 2) [ inl l ↦ omega arith | inr l ↦ absurd (once n l) ] in
       let gate = named-driver m n (mentioned m n Driven (drive-mention m d n r.among r.driven)) ∙ driver-of-target m n few place.0 d place.1 place.2 r.driven in
       let reached = arguments-reach (number m) drivers_of first d.arguments other (arguments-lie m place.0 d place.1 place.2) r.read in
@@ -237,7 +236,7 @@ module _ (m : ModuleTree) where
     drive = is.drive;
     among = Contains-between (drives m) is.before is.drive is.after is.splits;
     driven = is.driven;
-    part = argument-part (name_count m + drives_own is.before) is.drive.arguments k (omega arith)
+    part = argument-part (name_count m + inner_size is.before) is.drive.arguments k (omega arith)
         (arguments-lie m is.before is.drive is.after is.splits) (subst (λ (d : Driver). Contains (arguments_of d) k) is.gate c);
   }
 
@@ -359,7 +358,7 @@ module _ (m : ModuleTree) where
       let within = is.within in (
         flat_map names_of d.arguments,
         read-names d (Contains-between (drives m) is.before d is.after is.splits),
-        arguments-part (name_count m + drives_own is.before) d.arguments k (omega arith) (arguments-lie m is.before d is.after is.splits)
+        arguments-part (name_count m + inner_size is.before) d.arguments k (omega arith) (arguments-lie m is.before d is.after is.splits)
             (omega (arith, here)) (omega (arith, here, within)),
       )
 

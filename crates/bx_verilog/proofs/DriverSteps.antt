@@ -22,11 +22,12 @@ use Rattle.bx_verilog.specs.declared.drivers.NetDrivers.{NetDrivers}
 use Rattle.bx_verilog.specs.Formulas.{Text, formula}
 use Rattle.bx_verilog.specs.Drives.{Drive, drives_of, drives}
 use Rattle.bx_verilog.specs.Mentions.{names as names_of, number, inputs as inputs_of}
-use Rattle.bx_verilog.specs.Elaboration.{all_own, net_numbers, all_own_drivers, inner_drivers, gate_of, chosen, driver_of, name_count}
+use Rattle.bx_verilog.specs.Elaboration.{inner_size, all_own, net_numbers, all_own_drivers, inner_drivers, gate_of, chosen, driver_of, name_count}
 use Rattle.bx_verilog.specs.Shown.{number_among}
-use Rattle.bx_verilog.specs.Lowering.{AreLowered, shown_drive, inner_size, driver_among, AreDrivers, AreDriversToo, HaveArguments, part_drives, item_drives}
+use Rattle.bx_verilog.specs.Lowering.{AreLowered, shown_drive, driver_among, AreDrivers, AreDriversToo, HaveArguments, part_drives, item_drives}
 use Rattle.bx_verilog.proofs.Firsts.{same_texts, same_bytes, other_texts}
-use Rattle.bx_verilog.proofs.Lowering.{length-all_own_drivers, all_lowered_length}
+use Rattle.bx_verilog.proofs.Lowering.{all_lowered_length}
+use Rattle.bx_verilog.proofs.OwnNets.{inner_size-append, length-inner_drivers}
 use Rattle.bx_verilog.proofs.Membership.{Member-from_get_or, Member-flat_map, AllByRecursion-from_member, member_of_AllByRecursion}
 
 -- Lists that are maps.
@@ -105,7 +106,6 @@ gate_of-push : (numbered : Text → ℕ) (first next : ℕ) (ds : List Drive) (d
     gate_of numbered first (ds ++ d ∷ []) n ≡ option_or (gate_if numbered next d n) (gate_of numbered first ds n)
 gate_of-push numbered first next [] d n e = ap (λ k. gate_if numbered k d n) (omega arith) ∙ sym (option_or-none (gate_if numbered next d n))
 gate_of-push numbered first next (c ∷ ds) d n e =
-    let s = sum_by-cons (λ (x : Drive). all_own x.arguments) c ds in
     ap (λ o. option_or o (gate_if numbered first c n)) (gate_of-push numbered (first + all_own c.arguments) next ds d n (omega arith))
     ∙ option_or-assoc (gate_if numbered next d n) (gate_of numbered (first + all_own c.arguments) ds n) (gate_if numbered first c n)
 
@@ -113,20 +113,8 @@ inner-push : (numbered : Text → ℕ) (first next : ℕ) (ds : List Drive) (d :
     inner_drivers numbered first (ds ++ d ∷ []) ≡ inner_drivers numbered first ds ++ all_own_drivers numbered next d.arguments
 inner-push numbered first next [] d e = append-nil (all_own_drivers numbered first d.arguments) ∙ ap (λ k. all_own_drivers numbered k d.arguments) (omega arith)
 inner-push numbered first next (c ∷ ds) d e =
-    let s = sum_by-cons (λ (x : Drive). all_own x.arguments) c ds in
     ap (λ xs. all_own_drivers numbered first c.arguments ++ xs) (inner-push numbered (first + all_own c.arguments) next ds d (omega arith))
     ∙ sym (append_assoc (all_own_drivers numbered first c.arguments) (inner_drivers numbered (first + all_own c.arguments) ds) (all_own_drivers numbered next d.arguments))
-
-pub length-inner_drivers : (numbered : Text → ℕ) (first : ℕ) (ds : List Drive) → length (inner_drivers numbered first ds) ≡ inner_size ds
-length-inner_drivers numbered first [] = refl
-length-inner_drivers numbered first (c ∷ ds) =
-    omega (
-      arith,
-      length-append (all_own_drivers numbered first c.arguments) (inner_drivers numbered (first + all_own c.arguments) ds),
-      length-all_own_drivers numbered first c.arguments,
-      length-inner_drivers numbered (first + all_own c.arguments) ds,
-      sum_by-cons (λ (x : Drive). all_own x.arguments) c ds,
-    )
 
 chosen_or : (b : Bool) (g : Driver) (o : Option Driver) (p : Option ℕ) → (if b then g else chosen o p) ≡ chosen (option_or (if b then Some g else None) o) p
 chosen_or true g o p = refl
@@ -144,7 +132,7 @@ drive_named names inputs ds d next nets n e is =
 drive_step : (names : List Text) (d : Drive) (before after : NetDrivers) (nets : List ℕ) → AreLowered names before.inner.items after.inner.items d.arguments nets →
     ((F : Text → Driver) → before.named.items ≡ map F names → after.named.items ≡ map (put_all F d.targets (Gate d.op nets)) names) → AreDriversToo names (d ∷ []) before after
 drive_step names d before after nets low named = record {
-  count = omega (arith, all_lowered_length names before.inner.items after.inner.items d.arguments nets low, sum_by-cons (λ (x : Drive). all_own x.arguments) d []);
+  count = omega (arith, all_lowered_length names before.inner.items after.inner.items d.arguments nets low);
   drivers = λ inputs ds h.
       let N = number_among names in
       let next = length names + length before.inner.items in
@@ -170,7 +158,7 @@ too_none names all = record {
 
 too_append : (names : List Text) (xs ys : List Drive) (a b c : NetDrivers) → AreDriversToo names xs a b → AreDriversToo names ys b c → AreDriversToo names (xs ++ ys) a c
 too_append names xs ys a b c h k = record {
-  count = omega (arith, h.count, k.count, sum_by-append (λ (x : Drive). all_own x.arguments) xs ys);
+  count = omega (arith, h.count, k.count, inner_size-append xs ys);
   drivers = λ inputs ds s. subst (λ es. AreDrivers names inputs es c) (append_assoc ds xs ys) (k.drivers inputs (ds ++ xs) (h.drivers inputs ds s));
 }
 
@@ -186,14 +174,13 @@ module _ {X : Type 0} (f : X → List Drive) where
 
   pub gathered_fits : (xs : List X) (k : ℕ) (x : X) → k < length xs → x ≡ get_or xs k x → inner_size (flat_map f (take k xs)) + inner_size (f x) ≤ inner_size (flat_map f xs)
   gathered_fits xs k x l is =
-      let count : Drive → ℕ = λ d. all_own d.arguments in
       omega (
         arith,
         ap inner_size (gathered xs k x l is),
-        sum_by-append count (flat_map f (take k xs)) (f x),
+        inner_size-append (flat_map f (take k xs)) (f x),
         ap (λ ys. inner_size (flat_map f ys)) (take-append-drop (k + 1) xs),
         ap inner_size (flat_map-append f (take (k + 1) xs) (drop (k + 1) xs)),
-        sum_by-append count (flat_map f (take (k + 1) xs)) (flat_map f (drop (k + 1) xs)),
+        inner_size-append (flat_map f (take (k + 1) xs)) (flat_map f (drop (k + 1) xs)),
       )
 
   pub gathered_each : (xs : List X) (k : ℕ) (x : X) → k < length xs → x ≡ get_or xs k x → HaveArguments (flat_map f xs) → HaveArguments (f x)
@@ -208,7 +195,7 @@ one_drive_has ds d e h =
     omega (arith, some.0, length-map (map tree d.arguments.now) formula, length-map d.arguments.now tree)
 
 pub one_drive_size : (ds : List Drive) (d : Found) → ds ≡ shown_drive d ∷ [] → inner_size ds ≡ all_own (map formula (map tree d.arguments.now))
-one_drive_size ds d e = omega (arith, ap inner_size e, sum_by-cons (λ (x : Drive). all_own x.arguments) (shown_drive d) [])
+one_drive_size ds d e = omega (arith, ap inner_size e)
 
 -- What the items of a module drive is what the module's parts do.
 parts-drives : (ps : List Part) → flat_map part_drives ps ≡ flat_map drives_of (map part ps)

@@ -23,11 +23,9 @@ use Rattle.bx_verilog.specs.declared.role.Role.TheVariants.{Header, Directed, Wi
 use Rattle.bx_verilog.specs.Formulas.{Text, Formula, formula, names_of}
 use Rattle.bx_verilog.specs.Drives.{Drive, drive, drives_of, parts_of, drives}
 use Rattle.bx_verilog.specs.Mentions.{Mention, all_as, direction_mentions, port_mentions, reads_mentions, part_mentions, mentions, count, is_driven, inputs, number}
-use Rattle.bx_verilog.specs.Elaboration.{all_own, net_numbers, gate_of, name_count, chosen, driver_of}
-use Rattle.bx_verilog.proofs.Membership.{Member, Contains-from_member, Member-from_contains, Member-append_left, Member-append_right, Member-append_cases, Member-map, Member-map_cases, Member-flat_map, Member-flat_map_cases, counted, counted-append, counted-same}
+use Rattle.bx_verilog.specs.Elaboration.{all_own, inner_size, net_numbers, gate_of, name_count, chosen, driver_of}
+use Rattle.bx_verilog.proofs.Membership.{Member, Contains-from_member, Member-from_contains, Member-append_left, Member-append_right, Member-append_cases, Member-map, Member-map_cases, Member-flat_map, Member-flat_map_cases, counted, counted-append, counted-same, count_by-some}
 use Rattle.bx_verilog.proofs.Firsts.{same_texts, same_bytes}
-use Rattle.bx_verilog.proofs.Members.{count_by-some}
-use Rattle.bx_verilog.proofs.InnerNets.{drives_own}
 
 targets-driven : (ns : List Text) (rest : List Mention) (n : Text) → Member n ns → Member (n, Driven) (all_as Driven ns ++ rest)
 targets-driven ns rest n h = Member-append_left (n, Driven) (all_as Driven ns) rest (Member-map (λ name. (name, Driven)) n ns h)
@@ -212,7 +210,7 @@ pub record IsGateOf (numbered : Text → ℕ) (first : ℕ) (ds : List Drive) (n
   pub after : List Drive
   pub splits : ds ≡ before ++ drive ∷ after
   pub driven : Contains drive.targets n
-  pub gate : g ≡ Gate drive.op (net_numbers numbered (first + drives_own before) drive.arguments)
+  pub gate : g ≡ Gate drive.op (net_numbers numbered (first + inner_size before) drive.arguments)
 
 module _ (numbered : Text → ℕ) (n : Text) where
   abbrev here : ℕ → Drive → Driver
@@ -241,7 +239,7 @@ module _ (numbered : Text → ℕ) (n : Text) where
         | inr (x, some) ↦
             let same : Some x ≡ Some g = sym (gate-later first d ds x some) ∙ e in
             let found = gate_of-found (first + all_own d.arguments) ds g (some ∙ same) in
-            let place : first + all_own d.arguments + drives_own found.before ≡ first + (all_own d.arguments + drives_own found.before) = omega arith in
+            let place : first + all_own d.arguments + inner_size found.before ≡ first + (all_own d.arguments + inner_size found.before) = omega arith in
             record {
               before = d ∷ found.before;
               drive = found.drive;
@@ -273,21 +271,21 @@ module _ (numbered : Text → ℕ) (n : Text) where
       gate-nowhere first d ds (gate_of-none (first + all_own d.arguments) ds (λ x i. h x (inr i)))
       (false_from_ne_true (list_any (bytes_eq n) d.targets) (λ t. h d (inl refl) (passes-target n d.targets t)))
 
-  gate_of-behind : (first : ℕ) (before rest : List Drive) (g : Driver) → gate_of numbered (first + drives_own before) rest n ≡ Some g → gate_of numbered first (before ++ rest) n ≡ Some g
+  gate_of-behind : (first : ℕ) (before rest : List Drive) (g : Driver) → gate_of numbered (first + inner_size before) rest n ≡ Some g → gate_of numbered first (before ++ rest) n ≡ Some g
   gate_of-behind first [] rest g e =
       let place : first ≡ first + 0 = omega arith in
       ap (λ k. gate_of numbered k rest n) place ∙ e
   gate_of-behind first (d ∷ ds) rest g e =
-      let place : first + all_own d.arguments + drives_own ds ≡ first + (all_own d.arguments + drives_own ds) = omega arith in
+      let place : first + all_own d.arguments + inner_size ds ≡ first + (all_own d.arguments + inner_size ds) = omega arith in
       gate-later first d (ds ++ rest) g
       (gate_of-behind (first + all_own d.arguments) ds rest g (ap (λ k. gate_of numbered k rest n) place ∙ e))
 
   -- where no later drive has the name as a target
   gate_of-last : (first : ℕ) (before : List Drive) (d : Drive) (after : List Drive) → Contains d.targets n → ((x : Drive) → Member x after → Contains x.targets n → ⊥) →
-      gate_of numbered first (before ++ d ∷ after) n ≡ Some (here (first + drives_own before) d)
+      gate_of numbered first (before ++ d ∷ after) n ≡ Some (here (first + inner_size before) d)
   gate_of-last first before d after driven h =
-      gate_of-behind first before (d ∷ after) (here (first + drives_own before) d)
-      (gate-here (first + drives_own before) d after (gate_of-none (first + drives_own before + all_own d.arguments) after h) (target-passes n d.targets driven))
+      gate_of-behind first before (d ∷ after) (here (first + inner_size before) d)
+      (gate-here (first + inner_size before) d after (gate_of-none (first + inner_size before + all_own d.arguments) after h) (target-passes n d.targets driven))
 
 no-later : (m : ModuleTree) (n : Text) → count is_driven m n ≤ 1 → (before : List Drive) (d : Drive) (after : List Drive) → drives m ≡ before ++ d ∷ after →
     Contains d.targets n → (x : Drive) → Member x after → Contains x.targets n → ⊥
@@ -303,13 +301,13 @@ no-later m n few before d after e driven x later again =
 
 -- where a name has one driver at most, the gate that drives it is that of the drive that has it as a target
 pub one-drive : (m : ModuleTree) (n : Text) (first : ℕ) → count is_driven m n ≤ 1 → (before : List Drive) (d : Drive) (after : List Drive) → drives m ≡ before ++ d ∷ after →
-    Contains d.targets n → gate_of (number m) first (drives m) n ≡ Some (Gate d.op (net_numbers (number m) (first + drives_own before) d.arguments))
+    Contains d.targets n → gate_of (number m) first (drives m) n ≡ Some (Gate d.op (net_numbers (number m) (first + inner_size before) d.arguments))
 one-drive m n first few before d after e driven =
     ap (λ ds. gate_of (number m) first ds n) e ∙ gate_of-last (number m) n first before d after driven (no-later m n few before d after e driven)
 
 -- what drives a name
 pub driver-of-target : (m : ModuleTree) (n : Text) → count is_driven m n ≤ 1 → (before : List Drive) (d : Drive) (after : List Drive) → drives m ≡ before ++ d ∷ after →
-    Contains d.targets n → driver_of m n ≡ Gate d.op (net_numbers (number m) (name_count m + drives_own before) d.arguments)
+    Contains d.targets n → driver_of m n ≡ Gate d.op (net_numbers (number m) (name_count m + inner_size before) d.arguments)
 driver-of-target m n few before d after e driven =
     ap (λ o. chosen o (position (bytes_eq n) (inputs m))) (one-drive m n (name_count m) few before d after e driven)
 

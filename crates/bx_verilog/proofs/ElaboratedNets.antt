@@ -30,14 +30,16 @@ use Rattle.bx_verilog.specs.Formulas.{Text, Formula, named, constant, negation, 
 use Rattle.bx_verilog.specs.Drives.{Drive, parts_of, drives}
 use Rattle.bx_verilog.specs.Mentions.{Mention, direction_mentions, port_mentions, part_mentions, mentions, names, number, count, is_header, is_input, is_output, is_driven, ports_as, inputs, outputs}
 use Rattle.bx_verilog.specs.Faults.{IsFree, IsDriven, HasTwoDrivers, HasPorts, twice_in_header}
-use Rattle.bx_verilog.specs.Elaboration.{own, all_own, net_number, own_drivers, net_numbers, all_own_drivers, inner_drivers, name_count, driver_of, chosen, net_of}
+use Rattle.bx_verilog.specs.Elaboration.{own, all_own, inner_size, net_number, own_drivers, net_numbers, all_own_drivers, inner_drivers, name_count, driver_of, chosen, net_of}
 use Rattle.bx_verilog.proofs.Arity.{drive-arity}
 use Rattle.bx_verilog.proofs.Driving.{IsGateOf, driver-cases, no-gate-of-input, read-mention}
 use Rattle.bx_verilog.proofs.Firsts.{same_texts, same_bytes, place-of}
-use Rattle.bx_verilog.proofs.InnerNets.{drives_own, drives_own-append, length-drivers, driver-at-name, named-driver}
-use Rattle.bx_verilog.proofs.Members.{AreDistinct-filter, count_by-some}
-use Rattle.bx_verilog.proofs.Membership.{Member, Contains-from_member, Member-from_contains, Member-append_left, Member-append_right, Member-filter_cases, AllByRecursion-from_member, counted, counted-append}
-use Rattle.bx_verilog.proofs.MentionSizes.{inner_of, nets-fit}
+use Rattle.bx_verilog.proofs.InnerNets.{length-drivers, driver-at-name, named-driver}
+use Rattle.bx_verilog.proofs.Membership.{Member, Contains-from_member, Member-from_contains, Member-append_left, Member-append_right, Member-filter_cases, AllByRecursion-from_member, counted, counted-append, AreDistinct-filter, count_by-some}
+use Rattle.bx_verilog.proofs.Inputs.{port_names, port-named, input-at, inputs-distinct, once-driven}
+use Rattle.bx_verilog.proofs.Places.{position-of}
+use Rattle.bx_verilog.proofs.MentionSizes.{nets-fit}
+use Rattle.bx_verilog.proofs.OwnNets.{inner_size-append}
 use Rattle.bx_verilog.proofs.Numbering.{number-within, number-of, mentioned, count-mention}
 
 -- Numbers within the net.
@@ -63,11 +65,11 @@ module _ (numbered : Text → ℕ) (nets : ℕ) where
     nets-within (first + own x) xs (λ n h. are n (Member-append_right n (names_of x) (flat_map names_of xs) h)) (omega arith),
   )
 
-  operation-arity : (o : Operator) (ks : List ℕ) → HasArity (operation o) ks
-  operation-arity And ks = tt
-  operation-arity Or ks = tt
-  operation-arity Xor ks = tt
-  operation-arity Xnor ks = tt
+  operation-arity : (o : Operator) (a b : ℕ) → HasArity (operation o) (a ∷ b ∷ [])
+  operation-arity And a b = omega arith
+  operation-arity Or a b = omega arith
+  operation-arity Xor a b = omega arith
+  operation-arity Xnor a b = omega arith
 
   one-driver : (d : Driver) → IsDriver 0 nets d → All (IsDriver 0 nets) (d ∷ [])
   one-driver d h = All-from_recursion (IsDriver 0 nets) (d ∷ []) (h, tt)
@@ -90,7 +92,7 @@ module _ (numbered : Text → ℕ) (nets : ℕ) where
       All-append (IsDriver 0 nets) (own_drivers numbered first x ++ own_drivers numbered (first + own x) y) (Gate (operation o) ks ∷ [])
       (All-append (IsDriver 0 nets) (own_drivers numbered first x) (own_drivers numbered (first + own x) y) (own-are first x left (omega arith)) (own-are (first + own x) y right (omega arith)))
       (one-driver (Gate (operation o) ks) (
-        operation-arity o ks,
+        operation-arity o (net_number numbered first x) (net_number numbered (first + own x) y),
         all-within ks (net-within first x left (omega arith), (net-within (first + own x) y right (omega arith), tt)),
       ))
 
@@ -101,7 +103,7 @@ module _ (numbered : Text → ℕ) (nets : ℕ) where
       (own-are first x (λ n h. are n (Member-append_left n (names_of x) (flat_map names_of xs) h)) (omega arith))
       (all-own-are (first + own x) xs (λ n h. are n (Member-append_right n (names_of x) (flat_map names_of xs) h)) (omega arith))
 
-  inner-are : (first : ℕ) (ds : List Drive) → ((d : Drive) → Member d ds → AllNumbered d.arguments) → first + drives_own ds ≤ nets → All (IsDriver 0 nets) (inner_drivers numbered first ds)
+  inner-are : (first : ℕ) (ds : List Drive) → ((d : Drive) → Member d ds → AllNumbered d.arguments) → first + inner_size ds ≤ nets → All (IsDriver 0 nets) (inner_drivers numbered first ds)
   inner-are first [] are l = All-from_recursion (IsDriver 0 nets) [] tt
   inner-are first (d ∷ ds) are l =
       All-append (IsDriver 0 nets) (all_own_drivers numbered first d.arguments) (inner_drivers numbered (first + all_own d.arguments) ds)
@@ -127,10 +129,10 @@ gate-among m n g is =
     subst (λ ds. Member is.drive ds) (sym is.splits) (Member-append_right is.drive is.before (is.drive ∷ is.after) (inl refl))
 
 gate-within : (m : ModuleTree) (n : Text) (g : Driver) (is : IsGateOf (number m) (name_count m) (drives m) n g) →
-    All (λ k. k < total m) (net_numbers (number m) (name_count m + drives_own is.before) is.drive.arguments)
+    All (λ k. k < total m) (net_numbers (number m) (name_count m + inner_size is.before) is.drive.arguments)
 gate-within m n g is =
-    let first = name_count m + drives_own is.before in
-    let parts = ap drives_own is.splits ∙ drives_own-append is.before (is.drive ∷ is.after) in
+    let first = name_count m + inner_size is.before in
+    let parts = ap inner_size is.splits ∙ inner_size-append is.before (is.drive ∷ is.after) in
     all-within (number m) (total m) (net_numbers (number m) first is.drive.arguments)
     (nets-within (number m) (total m) first is.drive.arguments (drive-numbered m is.drive (gate-among m n g is)) (omega (arith, parts, length-drivers m)))
 
@@ -184,7 +186,7 @@ name-driver m tree n =
     elim (driver-cases m n) [
       | inl is ↦
           let arity = drive-arity m tree is.drive (Contains-from_member is.drive (drives m) (gate-among m n (driver_of m n) is)) in
-          subst Is (sym is.gate) (arity.1 (number m) (name_count m + drives_own is.before), gate-within m n (driver_of m n) is)
+          subst Is (sym is.gate) (arity.1 (number m) (name_count m + inner_size is.before), gate-within m n (driver_of m n) is)
       | inr (inl (i, place, e)) ↦ subst Is (sym e) (position-Some (bytes_eq n) (inputs m) i [] place).0
       | inr (inr e) ↦ subst Is (sym e) tt
     ]
@@ -198,24 +200,10 @@ drivers-are m tree =
 
 -- Ports.
 
-abbrev port_names : ModuleTree → List Text
-port_names m = map (λ (p : Port). p.name) m.ports
-
 few-ports : (test : Role → Bool) (m : ModuleTree) → length (ports_as test m) ≤ length m.ports
 few-ports test m =
     let p = λ (n : Text). nat_lt 0 (count test m n) in
     omega (arith, length-filter p (port_names m), count_by-le-length p (port_names m), length-map m.ports (λ (x : Port). x.name))
-
--- a port that is declared so is a name, and counted
-pub port-passes : (test : Role → Bool) (m : ModuleTree) (n : Text) → Member n (ports_as test m) → 1 ≤ count test m n
-port-passes test m n h =
-    let passes = (Member-filter_cases (λ (k : Text). nat_lt 0 (count test m k)) n (port_names m) h).1 in
-    grind (arith, nat_tests)
-
-pub port-named : (test : Role → Bool) (m : ModuleTree) (n : Text) → Member n (ports_as test m) → Contains (names m) n
-port-named test m n h =
-    let (r, c, t) = count-mention test m n (port-passes test m n h) in
-    mentioned m n r c
 
 -- the nets of the outputs
 outputs-within : (m : ModuleTree) → All (λ k. k < total m) (output_nets (net_of m))
@@ -225,86 +213,21 @@ outputs-within m =
     (All-from_recursion (λ n. number m n < total m) (outputs m) (AllByRecursion-from_member (λ n. number m n < total m) (outputs m)
     (λ n h. let within = number-within m n (port-named is_output m n h) in omega (arith, within, length-drivers m)))))
 
-own-counted : (ds : List Drive) → drives_own ds ≡ inner_of ds
-own-counted [] = refl
-own-counted (d ∷ ds) = omega (arith, sum_by-cons (λ (x : Drive). all_own x.arguments) d ds, own-counted ds)
-
 pub few-nets : (m : ModuleTree) → IsTree m → total m < 4294967296
-few-nets m tree = omega (arith, length-drivers m, nets-fit m, own-counted (drives m), module_fits 256 m tree.terminals tree.is_module, tree.few)
+few-nets m tree = omega (arith, length-drivers m, nets-fit m, module_fits 256 m tree.terminals tree.is_module, tree.few)
 
 pub few-of-ports : (test : Role → Bool) (m : ModuleTree) → IsTree m → length (ports_as test m) < 4294967296
 few-of-ports test m tree = omega (arith, few-ports test m, module_fits 256 m tree.terminals tree.is_module, tree.few)
 
 -- Inputs.
 
--- the mentions by which a name stands in the header
-abbrev in_header : Text → Mention → Bool
-in_header n x = bytes_eq n x.0 && is_header x.1
-
-ports-counted : (n : Text) (ps : List Port) → count_by (bytes_eq n) (map (λ (p : Port). p.name) ps) ≤ count_by (in_header n) (flat_map port_mentions ps)
-ports-counted n [] = omega arith
-ports-counted n (p ∷ ps) =
-    let test : ◌≡◌ {A = ℕ} (cond (bytes_eq n p.name && true) 1 0) (cond (bytes_eq n p.name) 1 0) = ap (λ b. cond b 1 0) (and-true (bytes_eq n p.name)) in
-    omega (
-      arith,
-      test,
-      counted (bytes_eq n) p.name (map (λ (x : Port). x.name) ps),
-      counted-append (in_header n) (port_mentions p) (flat_map port_mentions ps),
-      counted (in_header n) (p.name, Header) (direction_mentions p.name p.direction),
-      ports-counted n ps,
-    )
-
-port-once : (m : ModuleTree) → HasPorts m → (n : Text) → count_by (bytes_eq n) (port_names m) ≤ 1
-port-once m good n =
-    let all = counted-append (in_header n) (flat_map port_mentions m.ports) (flat_map part_mentions (parts_of m)) in
-    elim (cases_lt 1 (count is_header m n)) [
-      | inl twice ↦ absurd (good n (twice_in_header (omega (arith, twice))))
-      | inr once ↦ omega (arith, all, once, ports-counted n m.ports)
-    ]
-
-distinct-counted : (ns : List Text) → ((n : Text) → count_by (bytes_eq n) ns ≤ 1) → AreDistinct ns
-distinct-counted [] h = tt
-distinct-counted (x ∷ xs) h = (
-  AllByRecursion-from_member (λ y. y ≢ x) xs apart,
-  distinct-counted xs (λ n. let once = h n in omega (arith, once, counted (bytes_eq n) x xs)),
-)
-  where
-    apart : (y : Text) → Member y xs → y ≢ x
-    apart y i e =
-        let here : ◌≡◌ {A = ℕ} (cond (bytes_eq x x) 1 0) 1 = ap (λ b. cond b 1 0) (same_bytes x x refl) in
-        let there = count_by-some (bytes_eq x) xs y (Contains-from_member y xs i) (same_bytes x y (sym e)) in
-        let once = h x in
-        omega (arith, once, here, there, counted (bytes_eq x) x xs)
-
-pub inputs-distinct : (m : ModuleTree) → HasPorts m → AreDistinct (inputs m)
-inputs-distinct m good = AreDistinct-filter (λ (n : Text). nat_lt 0 (count is_input m n)) (port_names m) (distinct-counted (port_names m) (port-once m good))
-
-input-role : (r : Role) → is_input r ≡ true → r ≡ Directed InputDirection
-input-role (Directed InputDirection) e = refl
-input-role _ e = cc
-
--- an input is declared so
-pub input-declared : (m : ModuleTree) (n : Text) → Member n (inputs m) → Contains (mentions m) (n, Directed InputDirection)
-input-declared m n h =
-    let (r, c, t) = count-mention is_input m n (port-passes is_input m n h) in
-    subst (λ (x : Role). Contains (mentions m) (n, x)) (input-role r t) c
-
-pub once-driven : (m : ModuleTree) → IsFree (HasTwoDrivers m) → (n : Text) → count is_driven m n ≤ 1
-once-driven m free n = elim (cases_lt 1 (count is_driven m n)) [ inl twice ↦ absurd (free n (omega (arith, twice))) | inr once ↦ once ]
-
-position-of : (p : Text → Bool) (xs : List Text) (i : ℕ) → position_or_len p xs ≡ i → i < length xs → position p xs ≡ Some i
-position-of p xs i e l =
-    let less : position_or_len p xs < length xs = omega arith in
-    cond-true (nat_lt (position_or_len p xs) (length xs)) (Some (position_or_len p xs)) None (lt-ltb (position_or_len p xs) (length xs) less) ∙ ap Some e
-
 -- an input is driven by its number
-pub input-driver : (m : ModuleTree) → IsDriven m → (i : ℕ) → i < length (inputs m) → driver_of m (get_or (inputs m) i []) ≡ Input i
-input-driver m driven i l =
+input-numbered : (m : ModuleTree) → IsDriven m → (i : ℕ) → i < length (inputs m) → driver_of m (get_or (inputs m) i []) ≡ Input i
+input-numbered m driven i l =
     let n = get_or (inputs m) i [] in
     let member = Member-from_contains n (inputs m) (Contains-get_or (inputs m) i [] l) in
-    let none = no-gate-of-input m n (name_count m) (once-driven m driven.0.1 n) (input-declared m n member) in
-    let place = position-of (bytes_eq n) (inputs m) i (place-of (inputs m) i n (inputs-distinct m driven.0.0.0) (slice_get-get_or (inputs m) i [] l)) l in
-    ap (λ o. chosen o (position (bytes_eq n) (inputs m))) none ∙ ap (λ p. chosen None p) place
+    let place = place-of (inputs m) i n (inputs-distinct m driven.0.0.0) (slice_get-get_or (inputs m) i [] l) in
+    input-at m n i (once-driven m driven.0.1 n) member (position-of (bytes_eq n) (inputs m) i place l)
 
 not-input : (nets i : ℕ) (d : Driver) → IsDriver 0 nets d → d ≡ Input i → ⊥
 not-input nets i (Input j) h e = omega arith
@@ -322,7 +245,7 @@ only-input m i k l e =
           let other = get_or (names m) k [] in
           let at = driver-at-name m k other within (get_or_default (names m) k other [] within) in
           elim (driver-cases m other) [
-            | inl is ↦ (let wrong : Gate is.drive.op (net_numbers (number m) (name_count m + drives_own is.before) is.drive.arguments) ≡ Input i = sym is.gate ∙ sym at ∙ e in cc)
+            | inl is ↦ (let wrong : Gate is.drive.op (net_numbers (number m) (name_count m + inner_size is.before) is.drive.arguments) ≡ Input i = sym is.gate ∙ sym at ∙ e in cc)
             | inr (inl (j, place, is)) ↦
                 let same : Input j ≡ Input i = sym is ∙ sym at ∙ e in
                 let number_same : j ≡ i = cc in
@@ -356,7 +279,7 @@ is_net m tree driven acyclic = record {
       let member = Member-from_contains n (inputs m) (Contains-get_or (inputs m) i [] l) in
       record {
         net = number m n;
-        driven = named-driver m n (port-named is_input m n member) ∙ input-driver m driven i l;
+        driven = named-driver m n (port-named is_input m n member) ∙ input-numbered m driven i l;
         only = λ k e. only-input m i k l e;
       };
   acyclic = acyclic;

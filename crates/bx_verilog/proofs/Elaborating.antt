@@ -13,8 +13,8 @@ use Rattle.bx_verilog.specs.Formulas.{Text}
 use Rattle.bx_verilog.specs.Drives.{Drive, drives}
 use Rattle.bx_verilog.specs.Mentions.{names, number, inputs, outputs}
 use Rattle.bx_verilog.specs.Faults.{IsDriven, IsAccepted, IsLeast, IsOnCycle}
-use Rattle.bx_verilog.specs.Elaboration.{name_count, driver_of, inner_drivers, net_of, Elaborates}
-use Rattle.bx_verilog.specs.Lowering.{HaveArguments, inner_size}
+use Rattle.bx_verilog.specs.Elaboration.{inner_size, name_count, driver_of, inner_drivers, net_of, Elaborates}
+use Rattle.bx_verilog.specs.Lowering.{HaveArguments}
 use Rattle.bx_verilog.proofs.Arity.{drive-arity}
 use Rattle.bx_verilog.proofs.Cyclic.{acyclic-names, cycle-named}
 use Rattle.bx_verilog.proofs.ElaboratedNets.{is_net, few-nets, reads-nets-only}

@@ -21,7 +21,7 @@ use Rattle.bx_verilog.specs.Equations.{Assignment}
 use Rattle.bx_verilog.specs.Elaboration.{net_of, Elaborates}
 use Rattle.bx_verilog.proofs.Decisions.{dec_from, dec_both, dec_either, dec_member, dec_some, IsFirst, first-or_none, Way, dec_way, way-from_step, way-joined}
 use Rattle.bx_verilog.proofs.Driving.{drive-mention}
-use Rattle.bx_verilog.proofs.ElaboratedNets.{inputs-distinct}
+use Rattle.bx_verilog.proofs.Inputs.{inputs-distinct}
 use Rattle.bx_verilog.proofs.Firsts.{same_texts, same_bytes}
 use Rattle.bx_verilog.proofs.Membership.{Member, Member-from_contains, Contains-from_member, member_of_AllByRecursion}
 use Rattle.bx_verilog.proofs.Numbering.{mentioned, count-mention}

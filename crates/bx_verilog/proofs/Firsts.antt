@@ -11,7 +11,7 @@ use Rattle.std.proofs.lemmas.Slice.Eq.{bytes_eq-Decides}
 use Rattle.bx_logic.specs.Lists.{AreDistinct}
 use Rattle.bx_verilog.specs.Formulas.{Text}
 use Rattle.bx_verilog.specs.Mentions.{firsts}
-use Rattle.bx_verilog.proofs.Members.{Contains-nil, Contains-here, Contains-there, Contains-cases, Contains-filter, Contains-from_filter, AreDistinct-filter}
+use Rattle.bx_verilog.proofs.Membership.{Contains-nil, Contains-here, Contains-there, Contains-cases, Contains-filter, Contains-from_filter, AreDistinct-filter}
 
 pub same_texts : (a b : Text) → bytes_eq a b ≡ true → a ≡ b
 same_texts a b = (bytes_eq-Decides a b).0

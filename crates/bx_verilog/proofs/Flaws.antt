@@ -27,7 +27,7 @@ use Rattle.bx_verilog.specs.Faults.{IsBadPort, twice_in_header, two_directions, 
 use Rattle.bx_verilog.specs.Uses.{uses_among, AreUses}
 use Rattle.bx_verilog.specs.Flaws.{shows, fault_of, IsFirst}
 use Rattle.bx_verilog.proofs.Counting.{uses-at, same-length}
-use Rattle.bx_verilog.proofs.Members.{Contains-here, Contains-there, Contains-map, Contains-filter}
+use Rattle.bx_verilog.proofs.Membership.{Contains-here, Contains-there, Contains-map, Contains-filter}
 use Rattle.bx_verilog.proofs.Numbering.{mentioned, count-some, count-mention}
 
 -- the first place that passes a test

@@ -13,46 +13,10 @@ use Rattle.bx_verilog.specs.Formulas.{Text, Formula, named, constant, negation, 
 use Rattle.bx_verilog.specs.Drives.{Drive, drives}
 use Rattle.bx_verilog.specs.Mentions.{names, number}
 use Rattle.bx_verilog.proofs.Numbering.{number-at, number-within}
-use Rattle.bx_verilog.specs.Elaboration.{own, all_own, net_number, own_drivers, all_own_drivers, inner_drivers, name_count, driver_of, net_of}
+use Rattle.bx_verilog.proofs.OwnNets.{length-own_drivers, length-all_own_drivers, length-inner_drivers, inner_drivers-append}
+use Rattle.bx_verilog.specs.Elaboration.{own, all_own, inner_size, net_number, own_drivers, all_own_drivers, inner_drivers, name_count, driver_of, net_of}
 
--- how many nets of their own the expressions of these have
-abbrev pub drives_own : List Drive → ℕ
-drives_own [] = 0
-drives_own (d ∷ ds) = all_own d.arguments + drives_own ds
-
-pub drives_own-append : (xs ys : List Drive) → drives_own (xs ++ ys) ≡ drives_own xs + drives_own ys
-drives_own-append [] ys = omega arith
-drives_own-append (x ∷ xs) ys = omega (arith, drives_own-append xs ys)
-
-module _ (numbered : Text → ℕ) where
-  pub length-own_drivers : (first : ℕ) (x : Formula) → length (own_drivers numbered first x) ≡ own x
-  length-own_drivers first (named n) = refl
-  length-own_drivers first (constant b) = refl
-  length-own_drivers first (negation x) = simp length-append (omega (arith, length-own_drivers first x))
-  length-own_drivers first (pair o x y) =
-      simp length-append (omega (arith, length-own_drivers first x, length-own_drivers (first + own x) y))
-
-  pub length-all_own_drivers : (first : ℕ) (xs : List Formula) → length (all_own_drivers numbered first xs) ≡ all_own xs
-  length-all_own_drivers first [] = refl
-  length-all_own_drivers first (x ∷ xs) =
-      simp length-append (omega (arith, length-own_drivers first x, length-all_own_drivers (first + own x) xs))
-
-  pub length-inner_drivers : (first : ℕ) (ds : List Drive) → length (inner_drivers numbered first ds) ≡ drives_own ds
-  length-inner_drivers first [] = refl
-  length-inner_drivers first (d ∷ ds) =
-      simp length-append (omega (arith, length-all_own_drivers first d.arguments, length-inner_drivers (first + all_own d.arguments) ds))
-
-  inner_drivers-append : (first : ℕ) (xs ys : List Drive) →
-      inner_drivers numbered first (xs ++ ys) ≡ inner_drivers numbered first xs ++ inner_drivers numbered (first + drives_own xs) ys
-  inner_drivers-append first [] ys = ap (λ k. inner_drivers numbered k ys) (omega arith)
-  inner_drivers-append first (x ∷ xs) ys =
-      let later : first + all_own x.arguments + drives_own xs ≡ first + (all_own x.arguments + drives_own xs) = omega arith in
-      ap (λ zs. all_own_drivers numbered first x.arguments ++ zs)
-      (inner_drivers-append (first + all_own x.arguments) xs ys
-      ∙ ap (λ k. inner_drivers numbered (first + all_own x.arguments) xs ++ inner_drivers numbered k ys) later)
-      ∙ sym (append_assoc (all_own_drivers numbered first x.arguments) (inner_drivers numbered (first + all_own x.arguments) xs) (inner_drivers numbered (first + (all_own x.arguments + drives_own xs)) ys))
-
-pub length-drivers : (m : ModuleTree) → length (net_of m).drivers ≡ name_count m + drives_own (drives m)
+pub length-drivers : (m : ModuleTree) → length (net_of m).drivers ≡ name_count m + inner_size (drives m)
 length-drivers m =
     length-append (map (driver_of m) (names m)) (inner_drivers (number m) (name_count m) (drives m))
     ∙ omega (arith, length-map (names m) (driver_of m), length-inner_drivers (number m) (name_count m) (drives m))
@@ -138,21 +102,21 @@ module _ (numbered : Text → ℕ) (drivers : List Driver) (first : ℕ) where
 
 -- the own nets of a drive's arguments, behind those of the drives before it
 pub arguments-lie : (m : ModuleTree) (before : List Drive) (d : Drive) (after : List Drive) → drives m ≡ before ++ d ∷ after →
-    FormulasLie (number m) (net_of m).drivers (name_count m + drives_own before) d.arguments
+    FormulasLie (number m) (net_of m).drivers (name_count m + inner_size before) d.arguments
 arguments-lie m before d after e =
     let nets = (net_of m).drivers in
     let named_ones = map (driver_of m) (names m) in
     let count = name_count m in
     let earlier = inner_drivers (number m) count before in
-    let these = all_own_drivers (number m) (count + drives_own before) d.arguments in
-    let later = inner_drivers (number m) (count + drives_own before + all_own d.arguments) after in
+    let these = all_own_drivers (number m) (count + inner_size before) d.arguments in
+    let later = inner_drivers (number m) (count + inner_size before + all_own d.arguments) after in
     let split : nets ≡ named_ones ++ (earlier ++ (these ++ later)) =
     ap (λ ds. named_ones ++ inner_drivers (number m) count ds) e
     ∙ ap (λ zs. named_ones ++ zs) (inner_drivers-append (number m) count before (d ∷ after)) in
     let whole = subst (λ part. LiesAt nets 0 part) split (lies-whole nets) in
     let behind = lies-right nets 0 named_ones (earlier ++ (these ++ later)) whole in
     let rest = lies-right nets (0 + length named_ones) earlier (these ++ later) behind in
-    lies-here nets these (0 + length named_ones + length earlier) (count + drives_own before)
+    lies-here nets these (0 + length named_ones + length earlier) (count + inner_size before)
     (omega (arith, length-map (names m) (driver_of m), length-inner_drivers (number m) count before))
     (lies-left nets (0 + length named_ones + length earlier) these later rest)
 
@@ -163,10 +127,10 @@ record IsPlace (ds : List Drive) (i : ℕ) : Type 0 where
   after : List Drive
   splits : ds ≡ before ++ drive ∷ after
   place : ℕ
-  here : i ≡ drives_own before + place
+  here : i ≡ inner_size before + place
   within : place < all_own drive.arguments
 
-place : (ds : List Drive) (i : ℕ) → i < drives_own ds → IsPlace ds i
+place : (ds : List Drive) (i : ℕ) → i < inner_size ds → IsPlace ds i
 place [] i l = absurd (omega arith)
 place (d ∷ ds) i l =
     elim (cases_lt i (all_own d.arguments)) [
@@ -191,7 +155,7 @@ pub record IsInner (m : ModuleTree) (k : ℕ) : Type 0 where
   pub after : List Drive
   pub splits : drives m ≡ before ++ drive ∷ after
   pub place : ℕ
-  pub here : k ≡ name_count m + drives_own before + place
+  pub here : k ≡ name_count m + inner_size before + place
   pub within : place < all_own drive.arguments
 
 pub inner-net : (m : ModuleTree) (k : ℕ) → name_count m ≤ k → k < length (net_of m).drivers → IsInner m k

@@ -15,10 +15,12 @@ pub mod InnerNets
 pub mod Inputs
 pub mod Lowering
 pub mod Meanings
-pub mod Members
 pub mod Membership
 pub mod MentionSizes
+pub mod ModuleBehaviours
 pub mod Numbering
 pub mod OneMeaning
+pub mod OwnNets
 pub mod Places
 pub mod PortSteps
+pub mod Sorting

@@ -15,19 +15,7 @@ use Rattle.bx_verilog.specs.Formulas.{Text, Formula, named, constant, negation, 
 use Rattle.bx_verilog.specs.Elaboration.{own, all_own, net_number, own_drivers, net_numbers, all_own_drivers}
 use Rattle.bx_verilog.specs.Shown.{number_among}
 use Rattle.bx_verilog.specs.Lowering.{IsLowered, AreLowered}
-
--- A formula has as many nets of its own as drivers of them.
-pub length-own_drivers : (numbered : Text → ℕ) (first : ℕ) (f : Formula) → length (own_drivers numbered first f) ≡ own f
-length-own_drivers numbered first (named n) = refl
-length-own_drivers numbered first (constant b) = refl
-length-own_drivers numbered first (negation f) = simp length-append (omega (arith, length-own_drivers numbered first f))
-length-own_drivers numbered first (pair o f g) =
-    simp length-append (omega (arith, length-own_drivers numbered first f, length-own_drivers numbered (first + own f) g))
-
-pub length-all_own_drivers : (numbered : Text → ℕ) (first : ℕ) (fs : List Formula) → length (all_own_drivers numbered first fs) ≡ all_own fs
-length-all_own_drivers numbered first [] = refl
-length-all_own_drivers numbered first (f ∷ fs) =
-    simp length-append (omega (arith, length-own_drivers numbered first f, length-all_own_drivers numbered (first + own f) fs))
+use Rattle.bx_verilog.proofs.OwnNets.{length-own_drivers, length-all_own_drivers, length-net_numbers}
 
 -- How many drivers there are behind a formula's own.
 pub lowered_length : (names : List Text) (before after : List Driver) (f : Formula) (place : ℕ) → IsLowered names before after f place → length after ≡ length before + own f
@@ -152,10 +140,6 @@ net_numbers-append numbered first next [] gs e = ap (λ n. net_numbers numbered 
 net_numbers-append numbered first next (f ∷ fs) gs e = ap (λ ns. net_number numbered first f ∷ ns) (net_numbers-append numbered (first + own f) next fs gs (omega arith))
 
 -- As many numbers as formulas.
-pub length-net_numbers : (numbered : Text → ℕ) (first : ℕ) (fs : List Formula) → length (net_numbers numbered first fs) ≡ length fs
-length-net_numbers numbered first [] = refl
-length-net_numbers numbered first (f ∷ fs) = ap suc (length-net_numbers numbered (first + own f) fs)
-
 pub all_lowered_length : (names : List Text) (before after : List Driver) (fs : List Formula) (places : List ℕ) → AreLowered names before after fs places → length after ≡ length before + all_own fs
 all_lowered_length names before after fs places h =
     ap length h.drivers ∙ (length-append before (all_own_drivers (number_among names) (length names + length before) fs) ∙ ap (λ n. length before + n) (length-all_own_drivers (number_among names) (length names + length before) fs))

@@ -21,22 +21,23 @@ use Rattle.bx_verilog.specs.Drives.{Drive, drives}
 use Rattle.bx_verilog.specs.Mentions.{mentions, names, number, count, is_output, is_read, is_driven, inputs, outputs}
 use Rattle.bx_verilog.specs.Faults.{IsDriven, IsAccepted}
 use Rattle.bx_verilog.specs.Equations.{Equation, equations_of, module_of, Assignment, Meets, IsValuation, Gives}
-use Rattle.bx_verilog.specs.Elaboration.{all_own, net_numbers, all_own_drivers, inner_drivers, name_count, driver_of, net_of}
+use Rattle.bx_verilog.specs.Elaboration.{all_own, inner_size, net_numbers, all_own_drivers, inner_drivers, name_count, driver_of, net_of}
 use Rattle.bx_verilog.proofs.Membership.{Member, Member-from_contains, Contains-from_member, Member-from_get_or, Member-map, Member-map_cases, Member-flat_map, Member-flat_map_cases, Member-append_right, Member-filter_cases, AllByRecursion-from_member, member_of_AllByRecursion, Member-splits}
 use Rattle.bx_verilog.proofs.Numbering.{number-at, number-within, mentioned, count-some, count-mention}
-use Rattle.bx_verilog.proofs.InnerNets.{drives_own, length-all_own_drivers, length-drivers, named-driver}
+use Rattle.bx_verilog.proofs.InnerNets.{length-drivers, named-driver}
+use Rattle.bx_verilog.proofs.OwnNets.{length-all_own_drivers}
 use Rattle.bx_verilog.proofs.Driving.{drive-mention, read-mention, mention-drive, IsGateOf, driver-of-target, driver-cases}
 use Rattle.bx_verilog.proofs.ElaboratedNets.{reads-nets-only}
 use Rattle.bx_verilog.proofs.Cyclic.{acyclic-net}
 use Rattle.bx_verilog.proofs.FormulaValues.{AllFrom, AllFrom-left, AllFrom-right, AllFrom-append, AllFrom-at, AllFrom-from_at, IsMet, HasValue, all_own_values, length-all_own_values, values-of_met, values-of_own, met-all_own}
-use Rattle.bx_verilog.proofs.Inputs.{input-from_mention, input-mention, same-at_position, input-driver}
+use Rattle.bx_verilog.proofs.Inputs.{port-passes, input-from_mention, input-mention, same-at_position, input-driver}
 
 -- the values of the own nets of what the drives have
 abbrev inner_values : (Text → Bool) → List Drive → List Bool
 inner_values v [] = []
 inner_values v (d ∷ ds) = all_own_values v d.arguments ++ inner_values v ds
 
-length-inner_values : (v : Text → Bool) (ds : List Drive) → length (inner_values v ds) ≡ drives_own ds
+length-inner_values : (v : Text → Bool) (ds : List Drive) → length (inner_values v ds) ≡ inner_size ds
 length-inner_values v [] = refl
 length-inner_values v (d ∷ ds) =
     length-append (all_own_values v d.arguments) (inner_values v ds)
@@ -44,7 +45,7 @@ length-inner_values v (d ∷ ds) =
 
 -- the own nets of one drive's arguments, with their drivers and with their values
 drivers-at : (P : ℕ → Driver → Type 0) (numbered : Text → ℕ) (first next : ℕ) (before : List Drive) (d : Drive) (after : List Drive) →
-    next ≡ first + drives_own before → AllFrom P first (inner_drivers numbered first (before ++ d ∷ after)) →
+    next ≡ first + inner_size before → AllFrom P first (inner_drivers numbered first (before ++ d ∷ after)) →
     AllFrom P next (all_own_drivers numbered next d.arguments)
 drivers-at P numbered first next [] d after e h =
     let same : first ≡ next = omega arith in
@@ -57,7 +58,7 @@ drivers-at P numbered first next (b ∷ before) d after e h =
     (omega (arith, length-all_own_drivers numbered first b.arguments)) h)
 
 values-at : (P : ℕ → Bool → Type 0) (v : Text → Bool) (first next : ℕ) (before : List Drive) (d : Drive) (after : List Drive) →
-    next ≡ first + drives_own before → AllFrom P first (inner_values v (before ++ d ∷ after)) → AllFrom P next (all_own_values v d.arguments)
+    next ≡ first + inner_size before → AllFrom P first (inner_values v (before ++ d ∷ after)) → AllFrom P next (all_own_values v d.arguments)
 values-at P v first next [] d after e h =
     let same : first ≡ next = omega arith in
     subst (λ (n : ℕ). AllFrom P n (all_own_values v d.arguments)) same
@@ -128,7 +129,7 @@ module _ (m : ModuleTree) (good : IsDriven m) where
       ]
 
   target-driver : (n : Text) (before : List Drive) (d : Drive) (after : List Drive) → drives m ≡ before ++ d ∷ after → Member n d.targets →
-      driver_of m n ≡ Gate d.op (net_numbers (number m) (name_count m + drives_own before) d.arguments)
+      driver_of m n ≡ Gate d.op (net_numbers (number m) (name_count m + inner_size before) d.arguments)
   target-driver n before d after e h = driver-of-target m n (few n) before d after e (Contains-from_member n d.targets h)
 
   -- what drives a name that the module drives is no constant
@@ -185,11 +186,11 @@ module _ (m : ModuleTree) (good : IsDriven m) where
         let (before, after, e) = Member-splits d (drives m) among in
         let inner = AllFrom-right (IsMet bits (value_of values)) 0 c (map (driver_of m) (names m)) (inner_drivers (number m) c (drives m))
         (omega (arith, length-map (names m) (driver_of m))) met in
-        let own = drivers-at (IsMet bits (value_of values)) (number m) c (c + drives_own before) before d after refl
+        let own = drivers-at (IsMet bits (value_of values)) (number m) c (c + inner_size before) before d after refl
         (subst (λ (ds : List Drive). AllFrom (IsMet bits (value_of values)) c (inner_drivers (number m) c ds)) e inner) in
         name-met n (mentioned m n Driven (drive-mention m d n (Contains-from_member d (drives m) among) (Contains-from_member n d.targets target)))
         ∙ ap (driver_value bits (value_of values)) (target-driver n before d after e target)
-        ∙ ap (op_value d.op) (values-of_met (number m) bits (value_of values) (c + drives_own before) d.arguments own)
+        ∙ ap (op_value d.op) (values-of_met (number m) bits (value_of values) (c + inner_size before) d.arguments own)
 
     equation-given : (e : Equation) → Member e (flat_map equations_of (drives m)) → Meets net_value e
     equation-given e among =
@@ -248,7 +249,7 @@ module _ (m : ModuleTree) (good : IsDriven m) where
         name_value n ≡ driver_value (map a (inputs m)) nets (driver_of m n)
     gate-value n g =
         let c = name_count m in
-        let here = c + drives_own g.before in
+        let here = c + inner_size g.before in
         let among : Member g.drive (drives m) =
         subst (λ (ds : List Drive). Member g.drive ds) (sym g.splits)
         (Member-append_right g.drive g.before (g.drive ∷ g.after) (inl refl)) in
@@ -327,8 +328,7 @@ net-gives-driven m accepted a values h n driven =
 -- an output has a driver
 output-driven : (m : ModuleTree) → IsDriven m → (n : Text) → Member n (outputs m) → 1 ≤ count is_driven m n
 output-driven m good n h =
-    let kept = Member-filter_cases (λ k. nat_lt 0 (count is_output m k)) n (map (λ (p : Port). p.name) m.ports) h in
-    has_driver m good n (inr (ltb-true 0 (count is_output m n) kept.1))
+    has_driver m good n (inr (port-passes is_output m n h))
 
 pub net-gives : (m : ModuleTree) → IsAccepted m → (a : Assignment) (values : List Bool) →
     IsNetValuation (net_of m).drivers (map a (inputs m)) values → (n : Text) → Contains (outputs m) n →

@@ -17,15 +17,9 @@ use Rattle.bx_verilog.specs.declared.role.Role.TheVariants.{Header, Driven, Read
 use Rattle.bx_verilog.specs.Formulas.{Text, Formula, pair, formula, grouped, names_of}
 use Rattle.bx_verilog.specs.Drives.{Drive, drives_of, drives, parts_of}
 use Rattle.bx_verilog.specs.Mentions.{Mention, firsts, names, all_as, direction_mentions, port_mentions, reads_mentions, part_mentions}
-use Rattle.bx_verilog.specs.Elaboration.{own, all_own}
+use Rattle.bx_verilog.specs.Elaboration.{own, all_own, inner_size}
+use Rattle.bx_verilog.proofs.OwnNets.{inner_size-append}
 use Rattle.bx_verilog.proofs.Firsts.{contains-firsts, firsts-push, same_bytes}
-
--- how many nets expressions have of their own
-abbrev pub inner_of : List Drive → ℕ
-inner_of ds = sum_by (λ (d : Drive). all_own d.arguments) ds
-
-abbrev pub inner_count : ModuleTree → ℕ
-inner_count m = inner_of (drives m)
 
 -- an expression has as many names and nets of its own as it has names, constants and operators
 mutual
@@ -57,7 +51,7 @@ trees-fit (t ∷ ts) =
       sum_by-cons tree_size t ts,
     )
 
-part-fits : (p : PartTree) → length (part_mentions p) + inner_of (drives_of p) ≤ part_size p
+part-fits : (p : PartTree) → length (part_mentions p) + inner_size (drives_of p) ≤ part_size p
 part-fits (declaration d n) = omega arith
 part-fits (wire n None) = omega arith
 part-fits (wire n (Some e)) = omega (arith, tree-fits e, reads-length e)
@@ -72,7 +66,7 @@ part-fits (copies op ns e) =
       length-append (all_as Driven ns) (reads_mentions (formula e)),
     )
 
-parts-fit : (ps : List PartTree) → length (flat_map part_mentions ps) + inner_of (flat_map drives_of ps) ≤ sum_by part_size ps
+parts-fit : (ps : List PartTree) → length (flat_map part_mentions ps) + inner_size (flat_map drives_of ps) ≤ sum_by part_size ps
 parts-fit [] = omega arith
 parts-fit (p ∷ ps) =
     omega (
@@ -80,7 +74,7 @@ parts-fit (p ∷ ps) =
       part-fits p,
       parts-fit ps,
       length-append (part_mentions p) (flat_map part_mentions ps),
-      sum_by-append (λ (d : Drive). all_own d.arguments) (drives_of p) (flat_map drives_of ps),
+      inner_size-append (drives_of p) (flat_map drives_of ps),
       sum_by-cons part_size p ps,
     )
 
@@ -127,7 +121,7 @@ ports-fit ns (p ∷ ps) =
     let e = ap (λ (xs : List Text). length (firsts xs)) (ap (λ xs. ns ++ xs) split ∙ sym (append_assoc ns front rest)) in
     omega (arith, e, port-fits ns p.name p.direction, ports-fit (ns ++ front) ps)
 
-pub nets-fit : (m : ModuleTree) → length (names m) + inner_count m ≤ module_size m
+pub nets-fit : (m : ModuleTree) → length (names m) + inner_size (drives m) ≤ module_size m
 nets-fit m =
     let front = map (λ (x : Mention). x.0) (flat_map port_mentions m.ports) in
     let rest = map (λ (x : Mention). x.0) (flat_map part_mentions (parts_of m)) in

@@ -12,7 +12,7 @@ use Rattle.bx_verilog.specs.Formulas.{Text}
 use Rattle.bx_verilog.specs.declared.mentions.Mention.{Mention as Found}
 use Rattle.bx_verilog.specs.Shown.{shown}
 use Rattle.bx_verilog.specs.Mentions.{firsts, Mention, mentions, names, number, count}
-use Rattle.bx_verilog.proofs.Members.{Contains-map, count_by-some, Contains-counted}
+use Rattle.bx_verilog.proofs.Membership.{Contains-map, count_by-some, Contains-counted}
 use Rattle.bx_verilog.proofs.Firsts
 pub use Rattle.bx_verilog.proofs.Firsts.{contains-firsts, firsts-contains, firsts-distinct}
 

@@ -26,6 +26,11 @@ abbrev pub all_own : List Formula → ℕ
 all_own [] = 0
 all_own (f ∷ fs) = own f + all_own fs
 
+-- the same of the arguments of drives
+abbrev pub inner_size : List Drive → ℕ
+inner_size [] = 0
+inner_size (d ∷ ds) = all_own d.arguments + inner_size ds
+
 module _ (numbered : Text → ℕ) where
   -- the net of a formula whose own nets are numbered from `first` on: a name's, or the last of its own
   abbrev pub net_number : ℕ → Formula → ℕ

@@ -1,8 +1,9 @@
 -- What a module means: its ports, and an equation for each driver of a name.
 use Rattle.std.specs.Prelude.{◌≡◌, Bool, List, map, flat_map}
-use Rattle.std.specs.List.{AllByRecursion}
+use Rattle.std.specs.List.{AllByRecursion, AllZip}
 use Rattle.bx_logic.specs.declared.op.Op.{Op}
 use Rattle.bx_logic.specs.Op.{op_value}
+use Rattle.bx_logic.specs.Behaviours.{Behaviour}
 use Rattle.bx_syntax.specs.Parts.{ModuleTree}
 use Rattle.bx_verilog.specs.Formulas.{Text, Formula, formula_value}
 use Rattle.bx_verilog.specs.Drives.{Drive, drives}
@@ -43,3 +44,12 @@ pub record IsValuation (m : Module) (a v : Assignment) : Type 0 where
 pub record Gives (m : Module) (a : Assignment) (name : Text) (b : Bool) : Type 0 where
   pub some : (v : Assignment) × IsValuation m a v
   pub every : (v : Assignment) → IsValuation m a v → v name ≡ b
+
+-- where the inputs have these values, in the order of the header, it gives the outputs those
+pub record GivesOutputs (m : Module) (bits outputs : List Bool) : Type 0 where
+  pub assignment : Assignment
+  pub inputs : map assignment m.inputs ≡ bits
+  pub each : AllZip (Gives m assignment) m.outputs outputs
+
+abbrev pub module_behaviour : Module → Behaviour
+module_behaviour m = GivesOutputs m

@@ -1,6 +1,7 @@
 pub use Rattle.bx_logic.specs.Op
 pub use Rattle.bx_logic.specs.Nets
 pub use Rattle.bx_logic.specs.Values
+pub use Rattle.bx_logic.specs.Behaviours
 pub use Rattle.bx_syntax.specs.Trees
 pub use Rattle.bx_syntax.specs.Parts
 pub use Rattle.bx_syntax.specs.Terminals

@@ -1,6 +1,6 @@
 -- What expressions and drives add to the drivers of a net.
 use Rattle.std.specs.Prelude.{◌≡◌, ℕ, ◌+◌, ◌<◌, List, [], ◌∷◌, ◌++◌, map, flat_map, length, position, Option, Some, None, Vec}
-use Rattle.std.specs.List.{sum_by, AllByRecursion}
+use Rattle.std.specs.List.{AllByRecursion}
 use Rattle.std.specs.declared.alloc.Global.{Global}
 use Rattle.std.specs.Str.{bytes_eq}
 use Rattle.bx_logic.specs.declared.driver.Driver.{Driver}
@@ -11,7 +11,7 @@ use Rattle.bx_verilog.specs.declared.drivers.Drive.{Drive as Found}
 use Rattle.bx_verilog.specs.declared.drivers.NetDrivers.{NetDrivers}
 use Rattle.bx_verilog.specs.Formulas.{Text, Formula, formula}
 use Rattle.bx_verilog.specs.Drives.{Drive, drives_of}
-use Rattle.bx_verilog.specs.Elaboration.{all_own, net_number, own_drivers, net_numbers, all_own_drivers, inner_drivers, gate_of, chosen}
+use Rattle.bx_verilog.specs.Elaboration.{inner_size, net_number, own_drivers, net_numbers, all_own_drivers, inner_drivers, gate_of, chosen}
 use Rattle.bx_verilog.specs.Shown.{number_among}
 
 -- behind some drivers stand those of a formula's own nets, and this is the number of its net
@@ -31,10 +31,6 @@ shown_drive d = record { targets = d.targets.now; op = d.op; arguments = map for
 abbrev pub shown_drives : Option Found → List Drive
 shown_drives None = []
 shown_drives (Some d) = shown_drive d ∷ []
-
--- how many nets of their own the arguments of these have
-abbrev pub inner_size : List Drive → ℕ
-inner_size ds = sum_by (λ (d : Drive). all_own d.arguments) ds
 
 -- what drives a name that these drive, or that is one of these inputs
 abbrev pub driver_among : List Text → List Text → List Drive → Text → Driver

@@ -14,63 +14,6 @@ use crate::uses::Uses;
 use bx_logic::Name;
 use std::alloc::Global;
 
-/// What can be wrong with a name.
-#[derive(Clone, Copy, Debug)]
-enum Flaw {
-    /// It stands twice in the header, has two directions, stands in the header without one, or has one
-    /// and doesn't stand there.
-    Port,
-    /// Two things drive it.
-    Drivers,
-    /// It is read or is an output, and nothing drives it.
-    Undriven,
-}
-
-impl Flaw {
-    /// Whether it is wrong with a name that has these uses.
-    fn is_in(self, uses: &Uses) -> bool
-        ensures { result ≡ shows self uses.now }
-    {
-        match self {
-            Flaw::Port => uses.header > 1 || uses.directed > 1 || uses.header != uses.directed,
-            Flaw::Drivers => uses.driven > 1,
-            Flaw::Undriven => (uses.read > 0 || uses.output > 0) && uses.driven == 0,
-        }
-    }
-
-    /// The fault of the name that has it.
-    fn fault(self, name: Name) -> NetFault
-        ensures { result ≡ fault_of self name }
-    {
-        match self {
-            Flaw::Port => NetFault::BadPort(name),
-            Flaw::Drivers => NetFault::TwoDrivers(name),
-            Flaw::Undriven => NetFault::NoDriver(name),
-        }
-    }
-
-    /// Refuses the first name that has it, by its fault.
-    fn rule_out(self, alloc: Global, names: &Names, uses: &[Uses]) -> Result<(), NetFault>
-        requires { length uses.now ≡ length names.now }
-        ensures none { OnOk result (position (shows self) uses.now ≡ None) }
-        ensures first { IfErr result (λ fault. fault ≢ NetFault.NoMemory → IsFirst self names.now uses.now fault) }
-    {
-        for number in 0..names.len() {
-            if self.is_in(&uses[number as usize]) {
-                return Err(self.fault(copy(alloc, names.name(number))?));
-            }
-        }
-        Ok(())
-    }
-}
-
-/// Whether one of the names is an output.
-fn has_output(uses: &[Uses]) -> bool
-    ensures { result ≡ list_any (λ u. nat_lt 0 u.output) uses.now }
-{
-    uses.iter().any(|u| u.output > 0)
-}
-
 /// Refuses a module whose names have these uses, if one of them is wrong or no port is an output.
 ///
 /// # Errors
@@ -88,4 +31,61 @@ pub(crate) fn check(alloc: Global, names: &Names, uses: &[Uses]) -> Result<(), N
     }
     Flaw::Drivers.rule_out(alloc, names, uses)?;
     Flaw::Undriven.rule_out(alloc, names, uses)
+}
+
+// What can be wrong with a name.
+#[derive(Clone, Copy, Debug)]
+enum Flaw {
+    // It stands twice in the header, has two directions, stands in the header without one, or has one
+    // and doesn't stand there.
+    Port,
+    // Two things drive it.
+    Drivers,
+    // It is read or is an output, and nothing drives it.
+    Undriven,
+}
+
+impl Flaw {
+    // Refuses the first name that has it, by its fault.
+    fn rule_out(self, alloc: Global, names: &Names, uses: &[Uses]) -> Result<(), NetFault>
+        requires { length uses.now ≡ length names.now }
+        ensures none { OnOk result (position (shows self) uses.now ≡ None) }
+        ensures first { IfErr result (λ fault. fault ≢ NetFault.NoMemory → IsFirst self names.now uses.now fault) }
+    {
+        for number in 0..names.len() {
+            if self.is_in(&uses[number as usize]) {
+                return Err(self.fault(copy(alloc, names.name(number))?));
+            }
+        }
+        Ok(())
+    }
+
+    // Whether it is wrong with a name that has these uses.
+    fn is_in(self, uses: &Uses) -> bool
+        ensures { result ≡ shows self uses.now }
+    {
+        match self {
+            Flaw::Port => uses.header > 1 || uses.directed > 1 || uses.header != uses.directed,
+            Flaw::Drivers => uses.driven > 1,
+            Flaw::Undriven => (uses.read > 0 || uses.output > 0) && uses.driven == 0,
+        }
+    }
+
+    // The fault of the name that has it.
+    fn fault(self, name: Name) -> NetFault
+        ensures { result ≡ fault_of self name }
+    {
+        match self {
+            Flaw::Port => NetFault::BadPort(name),
+            Flaw::Drivers => NetFault::TwoDrivers(name),
+            Flaw::Undriven => NetFault::NoDriver(name),
+        }
+    }
+}
+
+// Whether one of the names is an output.
+fn has_output(uses: &[Uses]) -> bool
+    ensures { result ≡ list_any (λ u. nat_lt 0 u.output) uses.now }
+{
+    uses.iter().any(|u| u.output > 0)
 }

@@ -20,7 +20,29 @@ use bx_logic::{Name, Net, least_net_on_cycle};
 use bx_syntax::Module;
 use std::alloc::Global;
 
-/// The net of a module whose names have these uses, none of which is wrong.
+/// The net of a module: its names are numbered by first appearance, and what its expressions have
+/// besides names are nets behind them.
+///
+/// # Errors
+///
+/// The first fault of the module, or `NoMemory`.
+pub fn to_net(alloc: Global, module: &Module) -> Result<Net, NetFault>
+    // What is answered is the net of a module in which nothing is wrong.
+    ensures found { IfOk result (λ net. Elaborates «module».now (Ok net)) }
+    // The fault that is answered is the first of the module.
+    ensures faults { IfErr result (λ fault. fault ≢ NetFault.NoMemory → Elaborates «module».now (Err fault)) }
+    // What the module gives is answered, unless memory runs out.
+    ensures exact { (r : Result Netlist Fault) → Elaborates «module».now r → result ≢ Err NetFault.NoMemory → result ≡ r }
+{
+    let name = copy(alloc, module.name().as_slice())?;
+    let mentions = mentions(alloc, module)?;
+    let names = Names::of(alloc, &mentions)?;
+    let uses = uses_of(alloc, &names, &mentions)?;
+    check(alloc, &names, &uses)?;
+    checked_net(alloc, name, &names, &uses, module)
+}
+
+// The net of a module whose names have these uses, none of which is wrong.
 fn checked_net(
     alloc: Global,
     name: Name,
@@ -42,26 +64,4 @@ fn checked_net(
         return Err(NetFault::Cycle(copy(alloc, names.name(net))?));
     }
     Ok(Net::new(name, inputs, outputs, drivers))
-}
-
-/// The net of a module: its names are numbered by first appearance, and what its expressions have
-/// besides names are nets behind them.
-///
-/// # Errors
-///
-/// The first fault of the module, or `NoMemory`.
-pub fn to_net(alloc: Global, module: &Module) -> Result<Net, NetFault>
-    // What is answered is the net of a module in which nothing is wrong.
-    ensures found { IfOk result (λ net. Elaborates «module».now (Ok net)) }
-    // The fault that is answered is the first of the module.
-    ensures faults { IfErr result (λ fault. fault ≢ NetFault.NoMemory → Elaborates «module».now (Err fault)) }
-    // What the module gives is answered, unless memory runs out.
-    ensures exact { (r : Result Netlist Fault) → Elaborates «module».now r → result ≢ Err NetFault.NoMemory → result ≡ r }
-{
-    let name = copy(alloc, module.name().as_slice())?;
-    let mentions = mentions(alloc, module)?;
-    let names = Names::of(alloc, &mentions)?;
-    let uses = uses_of(alloc, &names, &mentions)?;
-    check(alloc, &names, &uses)?;
-    checked_net(alloc, name, &names, &uses, module)
 }

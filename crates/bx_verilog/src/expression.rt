@@ -13,44 +13,22 @@ use bx_logic::{Args, Driver, NoMemory, Op};
 use bx_syntax::tree::{Expr, Operator};
 use std::alloc::Global;
 
-/// The gate of two arguments that an operator is.
-fn operation(operator: Operator) -> Op
-    ensures { result ≡ operation_of operator }
-{
-    match operator {
-        Operator::And => Op::And,
-        Operator::Xor => Op::Xor,
-        Operator::Xnor => Op::Xnor,
-        Operator::Or => Op::Or,
-    }
-}
-
-/// Puts a driver behind the others, and answers the number of its net.
-fn push(names: &Names, inner: &mut Vec<Driver>, driver: Driver) -> Result<u32, NoMemory>
-    requires { length names.now + length inner.old.items < 4294967296 }
-    ensures drivers { OnOk result (inner.new.items ≡ inner.old.items ++ (driver ∷ [])) }
-    ensures number { IfOk result (λ net. net ≡ length names.now + length inner.old.items) }
-{
-    let number = names.len() + inner.len() as u32;
-    inner.push(driver)?;
-    Ok(number)
-}
-
-/// Puts the gate of an operation over these nets behind the other drivers, and answers its number.
-fn push_gate(
+/// Puts the drivers of the own nets of expressions, one expression behind the other, behind the others,
+/// and answers the numbers of the expressions' nets.
+pub(crate) fn nets_of_expressions(
     alloc: Global,
     names: &Names,
     inner: &mut Vec<Driver>,
-    op: Op,
-    arguments: &[u32],
-) -> Result<u32, NoMemory>
-    requires some { 0 < length arguments.now }
-    requires fits { length names.now + length inner.old.items < 4294967296 }
-    ensures drivers { OnOk result (inner.new.items ≡ inner.old.items ++ (Gate op arguments.now ∷ [])) }
-    ensures number { IfOk result (λ net. net ≡ length names.now + length inner.old.items) }
+    exprs: &[Expr],
+) -> Result<Vec<u32>, NoMemory>
+    requires { length names.now + length inner.old.items + all_own (map formula (map tree exprs.now)) < 4294967296 }
+    ensures { IfOk result (λ nets. AreLowered names.now inner.old.items inner.new.items (map formula (map tree exprs.now)) nets.items) }
 {
-    let arguments = Args::new(arguments.to_vec(alloc)?);
-    push(names, inner, Driver::Gate(op, arguments))
+    let mut nets = Vec::new(alloc);
+    for expr in exprs {
+        nets.push(net_of_expression(alloc, names, inner, expr)?)?;
+    }
+    Ok(nets)
 }
 
 /// Puts the drivers of an expression's own nets behind the others, and answers the number of its net.
@@ -88,19 +66,42 @@ pub(crate) fn net_of_expression(
     }
 }
 
-/// The same for expressions one behind the other.
-pub(crate) fn nets_of_expressions(
+// Puts the gate of an operation over these nets behind the other drivers, and answers its number.
+fn push_gate(
     alloc: Global,
     names: &Names,
     inner: &mut Vec<Driver>,
-    exprs: &[Expr],
-) -> Result<Vec<u32>, NoMemory>
-    requires { length names.now + length inner.old.items + all_own (map formula (map tree exprs.now)) < 4294967296 }
-    ensures { IfOk result (λ nets. AreLowered names.now inner.old.items inner.new.items (map formula (map tree exprs.now)) nets.items) }
+    op: Op,
+    arguments: &[u32],
+) -> Result<u32, NoMemory>
+    requires some { 0 < length arguments.now }
+    requires fits { length names.now + length inner.old.items < 4294967296 }
+    ensures drivers { OnOk result (inner.new.items ≡ inner.old.items ++ (Gate op arguments.now ∷ [])) }
+    ensures number { IfOk result (λ net. net ≡ length names.now + length inner.old.items) }
 {
-    let mut nets = Vec::new(alloc);
-    for expr in exprs {
-        nets.push(net_of_expression(alloc, names, inner, expr)?)?;
+    let arguments = Args::new(arguments.to_vec(alloc)?);
+    push(names, inner, Driver::Gate(op, arguments))
+}
+
+// Puts a driver behind the others, and answers the number of its net.
+fn push(names: &Names, inner: &mut Vec<Driver>, driver: Driver) -> Result<u32, NoMemory>
+    requires { length names.now + length inner.old.items < 4294967296 }
+    ensures drivers { OnOk result (inner.new.items ≡ inner.old.items ++ (driver ∷ [])) }
+    ensures number { IfOk result (λ net. net ≡ length names.now + length inner.old.items) }
+{
+    let number = names.len() + inner.len() as u32;
+    inner.push(driver)?;
+    Ok(number)
+}
+
+// The gate of two arguments that an operator is.
+fn operation(operator: Operator) -> Op
+    ensures { result ≡ operation_of operator }
+{
+    match operator {
+        Operator::And => Op::And,
+        Operator::Xor => Op::Xor,
+        Operator::Xnor => Op::Xnor,
+        Operator::Or => Op::Or,
     }
-    Ok(nets)
 }

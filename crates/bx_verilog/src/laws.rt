@@ -2,12 +2,13 @@
 ghost use Rattle.std.specs.Prelude.{◌≡◌, ◌↔◌, ◌≤◌, Bool, List, Result, map, Contains};
 ghost use Rattle.std.specs.List.{AllZip};
 ghost use Rattle.bx_logic.specs.Nets.{DependsOn, IsAcyclic, IsNet, Netlist};
+ghost use Rattle.bx_logic.specs.Behaviours.{SameBehaviour, net_behaviour};
 ghost use Rattle.bx_logic.specs.Values.{IsNetValuation, AreOutputValues, value_of};
 ghost use Rattle.bx_syntax.specs.Parts.{ModuleTree};
 ghost use Rattle.bx_syntax.specs.Texts.{IsTree};
 ghost use Rattle.bx_verilog.specs.declared.fault.NetFault.{NetFault};
 ghost use Rattle.bx_verilog.specs.Elaboration.{Elaborates, net_of};
-ghost use Rattle.bx_verilog.specs.Equations.{Assignment, Gives, module_of};
+ghost use Rattle.bx_verilog.specs.Equations.{Assignment, Gives, module_behaviour, module_of};
 ghost use Rattle.bx_verilog.specs.Faults.{IsAccepted, IsDriven, IsFree, IsOnCycle};
 ghost use Rattle.bx_verilog.specs.Formulas.{Text};
 ghost use Rattle.bx_verilog.specs.Mentions.{count, inputs, is_driven, names, number, outputs};
@@ -31,6 +32,12 @@ pub fn a_cycle_of_names_is_one_of_nets()
 /// The lists of a module of some text, in which nothing is wrong, make a net.
 pub fn an_accepted_module_makes_a_net()
     ensures { (m : ModuleTree) → IsTree m → IsAccepted m → IsNet (net_of m) }
+{}
+
+/// A module of some text, in which nothing is wrong, and its net have the same behaviour: whatever the
+/// values of the inputs are, each gives the outputs the values that the other gives them.
+pub fn a_net_has_the_behaviour_of_its_module()
+    ensures { (m : ModuleTree) → IsTree m → IsAccepted m → SameBehaviour (net_behaviour (net_of m)) (module_behaviour (module_of m)) }
 {}
 
 /// The net of a module has the values of the module's equations: whatever the values of the inputs are,

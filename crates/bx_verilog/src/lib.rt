@@ -13,6 +13,7 @@ mod names;
 mod ports;
 // Public, since contracts speak of it.
 pub mod role;
+mod sorted_names;
 mod uses;
 
 pub use bx_syntax::{Construct, Module, ReadFault, read_module};

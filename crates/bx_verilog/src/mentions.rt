@@ -20,78 +20,58 @@ pub(crate) struct Mention<'a> {
     pub role: Role,
 }
 
-/// Puts a name behind those that were found before.
-fn push_name<'a>(name: &'a Name, role: Role, found: &mut Vec<Mention<'a>>) -> Result<(), NoMemory>
-    ensures { OnOk result (map shown found.new.items ≡ map shown found.old.items ++ (name.now, role) ∷ []) }
+/// The names behind the module's own, in the order of the text.
+pub(crate) fn mentions(alloc: Global, parsed: &Module) -> Result<Vec<Mention<'_>>, NoMemory>
+    ensures { IfOk result (λ found. map shown found.items ≡ mentions_of parsed.now) }
 {
-    let name = name.as_slice();
-    found.push(Mention { name, role })?;
-    Ok(())
+    let mut found = Vec::new(alloc);
+    push_ports(parsed.ports(), &mut found)?;
+    push_items(parsed.items(), &mut found)?;
+    Ok(found)
 }
 
-/// The names that operands read.
-#[cycle(reads)]
-fn push_operands<'a>(
-    operands: &'a Vec<Operand>,
-    found: &mut Vec<Mention<'a>>,
-) -> Result<(), NoMemory>
-    ensures { OnOk result (map shown found.new.items ≡ map shown found.old.items ++ flat_map (λ operand. reads_mentions (formula (tree operand.expr))) operands.now.items) }
+// The names of the header.
+fn push_ports<'a>(ports: &'a [Port], found: &mut Vec<Mention<'a>>) -> Result<(), NoMemory>
+    ensures { OnOk result (map shown found.new.items ≡ map shown found.old.items ++ flat_map port_mentions ports.now) }
 {
-    for operand in operands {
-        push_reads(&operand.expr, found)?;
+    for port in ports {
+        push_port(port, found)?;
     }
     Ok(())
 }
 
-/// The names that an expression reads.
-#[cycle(reads)]
-fn push_reads<'a>(expr: &'a Expr, found: &mut Vec<Mention<'a>>) -> Result<(), NoMemory>
-    ensures { OnOk result (map shown found.new.items ≡ map shown found.old.items ++ reads_mentions (formula (tree expr.now))) }
+// The name of a port of the header, which stands for its direction too where it has one.
+fn push_port<'a>(port: &'a Port, found: &mut Vec<Mention<'a>>) -> Result<(), NoMemory>
+    ensures { OnOk result (map shown found.new.items ≡ map shown found.old.items ++ port_mentions port.now) }
 {
-    match expr {
-        Expr::Net(name) => push_name(name, Role::Read, found),
-        Expr::Bit(_) => Ok(()),
-        Expr::Not(inner) | Expr::Group(inner) => push_reads(inner, found),
-        Expr::Joined(first, operands) => {
-            push_reads(first, found)?;
-            push_operands(operands, found)
-        }
-    }
-}
-
-/// The names that the arguments of a gate read.
-fn push_arguments<'a>(arguments: &'a [Expr], found: &mut Vec<Mention<'a>>) -> Result<(), NoMemory>
-    ensures { OnOk result (map shown found.new.items ≡ map shown found.old.items ++ flat_map (λ e. reads_mentions (formula e)) (map tree arguments.now)) }
-{
-    for argument in arguments {
-        push_reads(argument, found)?;
+    push_name(&port.name, Role::Header, found)?;
+    if let Some(direction) = port.direction {
+        push_name(&port.name, Role::Directed(direction), found)?;
     }
     Ok(())
 }
 
-/// The names that a `buf` or a `not` drives.
-fn push_outputs<'a>(outputs: &'a [Name], found: &mut Vec<Mention<'a>>) -> Result<(), NoMemory>
-    ensures { OnOk result (map shown found.new.items ≡ map shown found.old.items ++ all_as Role.Driven outputs.now) }
+// The names of items.
+fn push_items<'a>(items: &'a [Vec<Part>], found: &mut Vec<Mention<'a>>) -> Result<(), NoMemory>
+    ensures { OnOk result (map shown found.new.items ≡ map shown found.old.items ++ flat_map part_mentions (flat_map (λ item. item) (map parts items.now))) }
 {
-    for output in outputs {
-        push_name(output, Role::Driven, found)?;
+    for item in items {
+        push_item(item, found)?;
     }
     Ok(())
 }
 
-/// A name that an expression drives, and the names that this reads.
-fn push_driven<'a>(
-    name: &'a Name,
-    expr: &'a Expr,
-    found: &mut Vec<Mention<'a>>,
-) -> Result<(), NoMemory>
-    ensures { OnOk result (map shown found.new.items ≡ map shown found.old.items ++ (name.now, Role.Driven) ∷ reads_mentions (formula (tree expr.now))) }
+// The names of an item.
+fn push_item<'a>(item: &'a [Part], found: &mut Vec<Mention<'a>>) -> Result<(), NoMemory>
+    ensures { OnOk result (map shown found.new.items ≡ map shown found.old.items ++ flat_map part_mentions (map part item.now)) }
 {
-    push_name(name, Role::Driven, found)?;
-    push_reads(expr, found)
+    for part in item {
+        push_part(part, found)?;
+    }
+    Ok(())
 }
 
-/// The names of a part.
+// The names of a part.
 fn push_part<'a>(item: &'a Part, found: &mut Vec<Mention<'a>>) -> Result<(), NoMemory>
     ensures { OnOk result (map shown found.new.items ≡ map shown found.old.items ++ part_mentions (part item.now)) }
 {
@@ -110,53 +90,73 @@ fn push_part<'a>(item: &'a Part, found: &mut Vec<Mention<'a>>) -> Result<(), NoM
     }
 }
 
-/// The names of an item.
-fn push_item<'a>(item: &'a [Part], found: &mut Vec<Mention<'a>>) -> Result<(), NoMemory>
-    ensures { OnOk result (map shown found.new.items ≡ map shown found.old.items ++ flat_map part_mentions (map part item.now)) }
+// A name that an expression drives, and the names that this reads.
+fn push_driven<'a>(
+    name: &'a Name,
+    expr: &'a Expr,
+    found: &mut Vec<Mention<'a>>,
+) -> Result<(), NoMemory>
+    ensures { OnOk result (map shown found.new.items ≡ map shown found.old.items ++ (name.now, Role.Driven) ∷ reads_mentions (formula (tree expr.now))) }
 {
-    for part in item {
-        push_part(part, found)?;
+    push_name(name, Role::Driven, found)?;
+    push_reads(expr, found)
+}
+
+// The names that a `buf` or a `not` drives.
+fn push_outputs<'a>(outputs: &'a [Name], found: &mut Vec<Mention<'a>>) -> Result<(), NoMemory>
+    ensures { OnOk result (map shown found.new.items ≡ map shown found.old.items ++ all_as Role.Driven outputs.now) }
+{
+    for output in outputs {
+        push_name(output, Role::Driven, found)?;
     }
     Ok(())
 }
 
-/// The name of a port of the header, which stands for its direction too where it has one.
-fn push_port<'a>(port: &'a Port, found: &mut Vec<Mention<'a>>) -> Result<(), NoMemory>
-    ensures { OnOk result (map shown found.new.items ≡ map shown found.old.items ++ port_mentions port.now) }
+// The names that the arguments of a gate read.
+fn push_arguments<'a>(arguments: &'a [Expr], found: &mut Vec<Mention<'a>>) -> Result<(), NoMemory>
+    ensures { OnOk result (map shown found.new.items ≡ map shown found.old.items ++ flat_map (λ e. reads_mentions (formula e)) (map tree arguments.now)) }
 {
-    push_name(&port.name, Role::Header, found)?;
-    if let Some(direction) = port.direction {
-        push_name(&port.name, Role::Directed(direction), found)?;
+    for argument in arguments {
+        push_reads(argument, found)?;
     }
     Ok(())
 }
 
-/// The names of the header.
-fn push_ports<'a>(ports: &'a [Port], found: &mut Vec<Mention<'a>>) -> Result<(), NoMemory>
-    ensures { OnOk result (map shown found.new.items ≡ map shown found.old.items ++ flat_map port_mentions ports.now) }
+// The names that an expression reads.
+#[cycle(reads)]
+fn push_reads<'a>(expr: &'a Expr, found: &mut Vec<Mention<'a>>) -> Result<(), NoMemory>
+    ensures { OnOk result (map shown found.new.items ≡ map shown found.old.items ++ reads_mentions (formula (tree expr.now))) }
 {
-    for port in ports {
-        push_port(port, found)?;
+    match expr {
+        Expr::Net(name) => push_name(name, Role::Read, found),
+        Expr::Bit(_) => Ok(()),
+        Expr::Not(inner) | Expr::Group(inner) => push_reads(inner, found),
+        Expr::Joined(first, operands) => {
+            push_reads(first, found)?;
+            push_operands(operands, found)
+        }
+    }
+}
+
+// The names that operands read.
+#[cycle(reads)]
+fn push_operands<'a>(
+    operands: &'a Vec<Operand>,
+    found: &mut Vec<Mention<'a>>,
+) -> Result<(), NoMemory>
+    ensures { OnOk result (map shown found.new.items ≡ map shown found.old.items ++ flat_map (λ operand. reads_mentions (formula (tree operand.expr))) operands.now.items) }
+{
+    for operand in operands {
+        push_reads(&operand.expr, found)?;
     }
     Ok(())
 }
 
-/// The names of items.
-fn push_items<'a>(items: &'a [Vec<Part>], found: &mut Vec<Mention<'a>>) -> Result<(), NoMemory>
-    ensures { OnOk result (map shown found.new.items ≡ map shown found.old.items ++ flat_map part_mentions (flat_map (λ item. item) (map parts items.now))) }
+// Puts a name behind those that were found before.
+fn push_name<'a>(name: &'a Name, role: Role, found: &mut Vec<Mention<'a>>) -> Result<(), NoMemory>
+    ensures { OnOk result (map shown found.new.items ≡ map shown found.old.items ++ (name.now, role) ∷ []) }
 {
-    for item in items {
-        push_item(item, found)?;
-    }
+    let name = name.as_slice();
+    found.push(Mention { name, role })?;
     Ok(())
-}
-
-/// The names behind the module's own, in the order of the text.
-pub(crate) fn mentions(alloc: Global, parsed: &Module) -> Result<Vec<Mention<'_>>, NoMemory>
-    ensures { IfOk result (λ found. map shown found.items ≡ mentions_of parsed.now) }
-{
-    let mut found = Vec::new(alloc);
-    push_ports(parsed.ports(), &mut found)?;
-    push_items(parsed.items(), &mut found)?;
-    Ok(found)
 }

@@ -1,11 +1,16 @@
-//! The names of a module, numbered by first appearance. A name is found by its bytes in the time of one
-//! look-up, and by its number at once. Which names there are is for others to say. These names are borrowed
-//! from the module: `copy` makes one that is not.
-ghost use Rattle.std.specs.Prelude.{◌≡◌, ◌<◌, List, ℕ, length, map, slice_index_or, [], IfOk};
+//! The names of a module, numbered by first appearance. A name is found by its bytes, and by its number at
+//! once. Which names there are is for others to say. These names are borrowed from the module: `copy` makes
+//! one that is not.
+//!
+//! The index hashes no bytes: a user who picked names with one hash would have each look-up go past all of
+//! them. Its keys are the places of the names in the order of their bytes, which are 0, 1 and so on whatever
+//! the names are. A module of n bytes so costs a time in n log n.
+ghost use Rattle.std.specs.Prelude.{◌≡◌, ◌<◌, ℕ, List, All, length, map, slice_index_or, [], IfOk};
 ghost use Rattle.bx_verilog.specs.Mentions.{firsts};
-ghost use Rattle.bx_verilog.specs.Shown.{shown, number_among};
+ghost use Rattle.bx_verilog.specs.Shown.{number_among};
 
 use crate::mentions::Mention;
+use crate::sorted_names::SortedNames;
 use bx_logic::{Name, NoMemory};
 use indexmap::IndexSet;
 use std::alloc::Global;
@@ -15,15 +20,17 @@ use std::marker::Model;
 /// the list of them.
 #[derive(Drop)]
 pub(crate) struct Names<'a> {
-    set: IndexSet<&'a [u8]>,
+    sorted: SortedNames<'a>,
+    // Of each name, by its number, the place among the sorted ones.
+    places: IndexSet<usize>,
 }
 
 impl<'a> Model for Names<'a> {
     ghost Value = { List (List ℕ) };
 
-    ghost view = { λ names. map (λ name. name.now) names.set.keys };
+    ghost view = { λ names. map (λ place. slice_index_or names.sorted place []) names.places.keys };
 
-    ghost invariant = { λ names. length names.set.keys < 4294967296 };
+    ghost invariant = { λ names. (length names.places.keys < 4294967296) × All (λ place. place < length names.sorted) names.places.keys };
 }
 
 impl<'a> Names<'a> {
@@ -32,25 +39,28 @@ impl<'a> Names<'a> {
         requires { length (firsts (map (λ x. x.name.now) mentions.now)) < 4294967296 }
         ensures { IfOk result (λ names. names ≡ firsts (map (λ x. x.name.now) mentions.now)) }
     {
-        let mut set = IndexSet::new(alloc);
+        let sorted = SortedNames::of(alloc, mentions)?;
+        let mut places = IndexSet::new(alloc);
         for mention in mentions {
-            set.insert(mention.name)?;
+            places.insert(sorted.place(mention.name))?;
         }
-        Ok(Names { set })
+        Ok(Names { sorted, places })
     }
 
     /// How many names there are.
     pub fn len(&self) -> u32
         ensures { result ≡ length self.now }
     {
-        self.set.len() as u32
+        self.places.len() as u32
     }
 
     /// The number of a name, which is how many names there are where it is none of them.
     pub fn number(&self, name: &[u8]) -> u32
         ensures { result ≡ number_among self.now name.now }
     {
-        self.set.get_index_of(name).unwrap_or(self.set.len()) as u32
+        let place = self.sorted.place(name);
+        let number = self.places.get_index_of(&place);
+        number.unwrap_or(self.places.len()) as u32
     }
 
     /// The name with a number.
@@ -58,7 +68,7 @@ impl<'a> Names<'a> {
         requires { number < length self.now }
         ensures { result.now ≡ slice_index_or self.now number [] }
     {
-        self.set[number as usize]
+        self.sorted.name(self.places[number as usize])
     }
 }
 

@@ -23,8 +23,24 @@ pub(crate) struct Uses {
     pub read: usize,
 }
 
+/// The uses of each name of these mentions, in the order of the names' numbers.
+pub(crate) fn uses_of(
+    alloc: Global,
+    names: &Names,
+    mentions: &[Mention],
+) -> Result<Vec<Uses>, NoMemory>
+    requires { names.now ≡ firsts (map (λ x. x.name.now) mentions.now) }
+    ensures { IfOk result (λ uses. uses.items ≡ map (uses_among (map shown mentions.now)) names.now) }
+{
+    let mut uses = vec![in alloc; Uses::NONE; names.len() as usize]?;
+    for mention in mentions {
+        uses[names.number(mention.name) as usize].note(mention.role);
+    }
+    Ok(uses)
+}
+
 impl Uses {
-    /// The uses of a name that stands nowhere.
+    // The uses of a name that stands nowhere.
     const NONE: Uses = Uses {
         header: 0,
         directed: 0,
@@ -34,7 +50,7 @@ impl Uses {
         read: 0,
     };
 
-    /// Counts one use more.
+    // Counts one use more.
     fn note(&mut self, role: Role)
         requires { HasRoom self.old }
         ensures { self.new ≡ noted role self.old }
@@ -55,20 +71,4 @@ impl Uses {
             Role::Read => self.read += 1,
         }
     }
-}
-
-/// The uses of each name of these mentions, in the order of the names' numbers.
-pub(crate) fn uses_of(
-    alloc: Global,
-    names: &Names,
-    mentions: &[Mention],
-) -> Result<Vec<Uses>, NoMemory>
-    requires { names.now ≡ firsts (map (λ x. x.name.now) mentions.now) }
-    ensures { IfOk result (λ uses. uses.items ≡ map (uses_among (map shown mentions.now)) names.now) }
-{
-    let mut uses = vec![in alloc; Uses::NONE; names.len() as usize]?;
-    for mention in mentions {
-        uses[names.number(mention.name) as usize].note(mention.role);
-    }
-    Ok(uses)
 }

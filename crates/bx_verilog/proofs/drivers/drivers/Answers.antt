@@ -1,5 +1,6 @@
 use Rattle.std.proofs.Common.{sym, ap, ◌∙◌, subst, length, [], arith}
-use Rattle.bx_verilog.specs.Lowering.{HaveArguments, inner_size}
+use Rattle.bx_verilog.specs.Elaboration.{inner_size}
+use Rattle.bx_verilog.specs.Lowering.{HaveArguments}
 use Rattle.bx_verilog.proofs.DriverSteps.{module-drives, module_drivers}
 use Rattle.bx_verilog.proofs.Numbering.{firsts-distinct}
 use Rattle.bx_verilog.proofs.drivers.drivers.Goals as goal

@@ -1,3 +1,4 @@
+pub mod Words
 pub mod ReadsExpressions
 pub mod Repeats
 pub mod ReadsModules

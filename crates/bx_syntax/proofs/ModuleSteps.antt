@@ -9,7 +9,7 @@ use Rattle.bx_syntax.specs.declared.tree.Port.{Port}
 use Rattle.bx_syntax.specs.declared.part.Kind.{Kind}
 use Rattle.bx_syntax.specs.declared.part.Kind.TheVariants.{Declaration, Wire, Assign, Gate}
 use Rattle.bx_syntax.specs.declared.tree.Expr.{Expr, Net, Bit as BitOf, Not', Group', Joined'}
-use Rattle.bx_syntax.specs.Trees.{Tree, net, Tail, done, link, levelled, tree, row_tail}
+use Rattle.bx_syntax.specs.Trees.{Tree, net, tree}
 use Rattle.bx_syntax.specs.declared.stop.Stop.{Stop}
 use Rattle.bx_syntax.specs.declared.stop.Stop.TheVariants.{Bad, Deep, NoMemory}
 use Rattle.bx_syntax.specs.Gives.{Gives}
@@ -113,11 +113,7 @@ not_net (Net n) f = absurd (f n refl)
 not_net (BitOf b) f = refl
 not_net (Not' _ e) f = refl
 not_net (Group' _ e) f = refl
-not_net (Joined' _ e _ r) f = by_tail (tree e) (row_tail r)
-  where
-    by_tail : (t : Tree) (ts : Tail) → is_net (levelled t ts) ≡ false
-    by_tail t done = refl
-    by_tail t (link o u ts) = refl
+not_net (Joined' _ e o _ g _ r) f = refl
 
 pub net_tree : (e : Expr) (n : List ℕ) → e ≡ Net n → tree e ≡ net n
 net_tree e n h = ap tree h

@@ -1,11 +1,10 @@
 -- What reads an expression reads each that the grammar has, and nothing else.
-use Rattle.std.proofs.lemmas.Bool.{eqb-false}
-use Rattle.std.proofs.Common.{◌≡◌, vec_len, ◌==◌, get_or, Vec, Global, Result, ℕ, zero, suc, ◌<◌, ◌≤◌, false, List, [], ◌∷◌, ◌++◌, drop, length, length-append, length-drop, append_assoc, Option, Some, None, refl, sym, ap, subst, ◌∙◌, ◌⊎◌, inl, inr, arith, eq-eqb}
+use Rattle.std.proofs.Common.{◌≡◌, get_or, Vec, Global, Result, Ok, Err, IfOk, IfErr, ℕ, zero, suc, ◌<◌, ◌≤◌, List, [], ◌∷◌, ◌++◌, drop, length, length-append, length-drop, append_assoc, Option, Some, None, refl, sym, ap, subst, ◌∙◌, ◌⊎◌, inl, inr, arith, eq-eqb}
 use Rattle.std.proofs.lemmas.Grind.{common_steps}
 use Rattle.std.proofs.lemmas.Bool.Decides.{eqb_tells}
 use Rattle.std.proofs.Common.{⊎_elim}
 use Rattle.bx_syntax.specs.declared.terminal.Terminal.{Terminal}
-use Rattle.bx_syntax.specs.declared.terminal.Terminal.TheVariants.{Mark, Gate, Name, Bit, Other}
+use Rattle.bx_syntax.specs.declared.terminal.Terminal.TheVariants.{Mark, Gate, Name, Bit, Number, Reserved, Symbol}
 use Rattle.bx_syntax.specs.declared.terminal.Mark.{Mark as Sign}
 use Rattle.bx_syntax.specs.declared.terminal.Mark.TheVariants.{Module, EndModule, Input, Output, Wire, Assign, Open, Close, Comma, Semicolon, Equals, Tilde, Ampersand, Caret, TildeCaret, Bar}
 use Rattle.bx_syntax.specs.declared.tree.Operator.{Operator}
@@ -13,7 +12,7 @@ use Rattle.bx_syntax.specs.declared.tree.Operator.TheVariants.{And, Xor, Xnor, O
 use Rattle.bx_syntax.specs.declared.tree.Expr.{Expr, Row_of-Operand, end_of-Operand, more_of-Operand, items-the_row-Operand, items_hidden-the_row-Operand-0}
 use Rattle.bx_syntax.specs.declared.tree.Expr.TheBlock.{hidden-the_row-Operand-0}
 use Rattle.bx_syntax.specs.declared.tree.Operand.{Operand}
-use Rattle.bx_syntax.specs.Trees.{Tree, net, bit, inverse, group, joined, Tail, done, link, started, levelled, tree, tail, row_tail}
+use Rattle.bx_syntax.specs.Trees.{Tree, net, bit, inverse, group, joined, Tail, done, link, started, tree, tail, row_tail}
 use Rattle.bx_syntax.specs.Expressions.{rank, IsAt, AreAt, sign, spelling, tail_spelling, nesting, tail_nesting}
 use Rattle.bx_syntax.specs.ReadsExpressions.{Reader, ◌>>=◌, nothing, operator_of, of_rank, operator_at, linked, tail_within, tail_at, joined_at, level_at, number, behind, inverse_with, group_with, nested_with, primary_with, primary_at, expr_at, inverse_at, group_at}
 use Rattle.bx_logic.specs.declared.op.Op.{Op}
@@ -334,7 +333,9 @@ primary_finds_by : (p q : Reader Tree) (d : ℕ) →
     Finds d 0 (primary_with p q)
 primary_finds_by p q d f [] x e = absurd (cc)
 primary_finds_by p q d f (Gate _ ∷ ts) x e = absurd (cc)
-primary_finds_by p q d f (Other ∷ ts) x e = absurd (cc)
+primary_finds_by p q d f (Number ∷ ts) x e = absurd (cc)
+primary_finds_by p q d f (Reserved ∷ ts) x e = absurd (cc)
+primary_finds_by p q d f (Symbol b ∷ ts) x e = absurd (cc)
 primary_finds_by p q d f (Name n ∷ ts) x e = leaf_finds d (net n) (Name n) ts x refl tt refl e
 primary_finds_by p q d f (Bit b ∷ ts) x e = leaf_finds d (bit b) (Bit b) ts x refl tt refl e
 primary_finds_by p q d f (Mark s ∷ ts) x e = f s ts x e
@@ -487,10 +488,21 @@ unfolding primary_at
 primary_gate zero op ts = refl
 primary_gate (suc d) op ts = refl
 
-pub primary_other : (d : ℕ) (ts : List Terminal) → primary_at d (Other ∷ ts) ≡ None
+-- nor does a terminal of no text of the grammar
+pub primary_number : (d : ℕ) (ts : List Terminal) → primary_at d (Number ∷ ts) ≡ None
 unfolding primary_at
-primary_other zero ts = refl
-primary_other (suc d) ts = refl
+primary_number zero ts = refl
+primary_number (suc d) ts = refl
+
+pub primary_reserved : (d : ℕ) (ts : List Terminal) → primary_at d (Reserved ∷ ts) ≡ None
+unfolding primary_at
+primary_reserved zero ts = refl
+primary_reserved (suc d) ts = refl
+
+pub primary_symbol : (d b : ℕ) (ts : List Terminal) → primary_at d (Symbol b ∷ ts) ≡ None
+unfolding primary_at
+primary_symbol zero b ts = refl
+primary_symbol (suc d) b ts = refl
 
 -- Why a reader fails is also why the one above it does.
 pub fails_too : {X Y : Type 0} (e : Stop) (r : Option X) (s : Option Y) → Fails e r → (r ≡ None → s ≡ None) → Fails e s
@@ -528,17 +540,40 @@ operands_end p k acc ts start h e = sym e ∙ (ap (ahead acc) (tail_ends p k ts 
 pub operands_shrink : (p : Reader Tree) (t : Tree) (ts behind rest : List Terminal) → Shrinks p → behind ≡ drop 1 ts → p behind ≡ Some (t, rest) → length rest < length ts
 operands_shrink p t ts behind rest s b f = omega (arith, s.less behind (t, rest) f, ap length b, length-drop 1 ts)
 
-pub primary_neither : (d : ℕ) (t : Terminal) (ts : List Terminal) → ((op : Op) × (t ≡ Gate op)) ⊎ (t ≡ Other) → primary_at d (t ∷ ts) ≡ None
+pub primary_neither : (d : ℕ) (t : Terminal) (ts : List Terminal) → ((op : Op) × (t ≡ Gate op)) ⊎ ((t ≡ Number) ⊎ ((t ≡ Reserved) ⊎ ((b : ℕ) × (t ≡ Symbol b)))) → primary_at d (t ∷ ts) ≡ None
 primary_neither d t ts (inl (op, e)) = rw e (primary_gate d op ts)
-primary_neither d t ts (inr e) = rw e (primary_other d ts)
+primary_neither d t ts (inr (inl e)) = rw e (primary_number d ts)
+primary_neither d t ts (inr (inr (inl e))) = rw e (primary_reserved d ts)
+primary_neither d t ts (inr (inr (inr (b, e)))) = rw e (primary_symbol d b ts)
 
-levelled_is : (t : Tree) (os : List Operand) → 0 < length os → levelled t (tail os) ≡ started t (tail os)
-levelled_is t [] h = absurd (omega arith)
-levelled_is t (o ∷ os) h = refl
+pub joined_tree : (first second f g : Expr) (o : Operator) (v : Vec Operand Global) → f ≡ first → g ≡ second → joined (tree f) o (tree g) (row_tail (hidden-the_row-Operand-0 v)) ≡ joined (tree first) o (tree second) (tail v.items)
+joined_tree first second f g o v h k =
+    ap (λ x. joined (tree x) o (tree g) (row_tail (hidden-the_row-Operand-0 v))) h
+    ∙ ap (λ x. joined (tree first) o (tree x) (row_tail (hidden-the_row-Operand-0 v))) k
+    ∙ ap (joined (tree first) o (tree second)) (row_tail-vec v)
 
-pub joined_tree : (e first : Expr) (v : Vec Operand Global) → 0 < length v.items → e ≡ first → levelled (tree e) (row_tail (hidden-the_row-Operand-0 v)) ≡ started (tree first) (tail v.items)
-joined_tree e first v l h =
-    ap (λ f. levelled (tree f) (row_tail (hidden-the_row-Operand-0 v))) h ∙ (ap (levelled (tree first)) (row_tail-vec v) ∙ levelled_is (tree first) v.items l)
+-- Operands of a level, joined: the first, and where an operator follows, the second and those behind it.
+pub joined_one : (p : Reader Tree) (k : ℕ) (t : Tree) (ts rest : List Terminal) → p ts ≡ Some (t, rest) → operator_at k rest ≡ None → joined_at p k ts ≡ Some (t, rest)
+unfolding joined_at
+joined_one p k t ts rest e h = rw (e, tail_ends p k rest h) refl
 
-pub some_operands : (v : Vec Operand Global) → (vec_len v == 0) ≡ false → 0 < length v.items
-some_operands v e = let h = eqb-false (vec_len v) 0 e in omega (arith, h, v.ok.0)
+pub joined_second_fails : (p : Reader Tree) (k : ℕ) (t : Tree) (o : Operator) (ts rest behind : List Terminal) → p ts ≡ Some (t, rest) → operator_at k rest ≡ Some o → behind ≡ drop 1 rest →
+    p behind ≡ None → joined_at p k ts ≡ None
+unfolding joined_at
+joined_second_fails p k t o ts rest behind e h b f = rw (e, tail_fails p k o rest h (ap p (sym b) ∙ f)) refl
+
+pub joined_more_fails : (p : Reader Tree) (k : ℕ) (t u : Tree) (o : Operator) (ts rest behind next : List Terminal) → Shrinks p → p ts ≡ Some (t, rest) → operator_at k rest ≡ Some o → behind ≡ drop 1 rest →
+    p behind ≡ Some (u, next) → tail_at p k next ≡ None → joined_at p k ts ≡ None
+unfolding joined_at
+joined_more_fails p k t u o ts rest behind next s e h b f g =
+    rw (e, tail_next p k o u rest next s h (ap p (sym b) ∙ f), g) refl
+
+pub joined_all : (p : Reader Tree) (k : ℕ) (t u : Tree) (o : Operator) (more : Tail) (ts rest behind next last : List Terminal) → Shrinks p → p ts ≡ Some (t, rest) → operator_at k rest ≡ Some o → behind ≡ drop 1 rest →
+    p behind ≡ Some (u, next) → tail_at p k next ≡ Some (more, last) → joined_at p k ts ≡ Some (joined t o u more, last)
+unfolding joined_at
+joined_all p k t u o more ts rest behind next last s e h b f g =
+    rw (e, tail_next p k o u rest next s h (ap p (sym b) ∙ f), g) refl
+
+pub gives_tree : (r : Result Expr Stop) (t : Tree) (rest : List Terminal) (read : Option (Tree × List Terminal)) → IfOk r (λ e. tree e ≡ t) → IfErr r (λ e. e ≡ NoMemory) → read ≡ Some (t, rest) → Gives tree rest r read
+gives_tree (Ok x) t rest read h f e = e ∙ ap (λ (u : Tree). let y : Tree × List Terminal = (u, rest) in Some y) (sym h)
+gives_tree (Err w) t rest read h f e = subst (λ (v : Stop). Fails v read) (sym f) tt

@@ -5,7 +5,7 @@ use Rattle.std.specs.Prelude.{IsSome}
 use Rattle.bx_logic.specs.declared.op.Op.{Op}
 use Rattle.bx_logic.specs.declared.op.Op.TheVariants.{Buf, Not, And, Or, Nand, Nor, Xor, Xnor}
 use Rattle.bx_syntax.specs.declared.terminal.Terminal.{Terminal}
-use Rattle.bx_syntax.specs.declared.terminal.Terminal.TheVariants.{Mark, Gate as GateWord, Name, Bit, Other}
+use Rattle.bx_syntax.specs.declared.terminal.Terminal.TheVariants.{Mark, Gate as GateWord, Name, Bit, Number, Reserved, Symbol}
 use Rattle.bx_syntax.specs.declared.terminal.Mark.{Mark as Sign}
 use Rattle.bx_syntax.specs.declared.terminal.Mark.TheVariants.{Module as ModuleWord, EndModule, Input as InputWord, Output as OutputWord, Wire as WireWord, Assign as AssignWord, Open, Close, Comma, Semicolon, Equals}
 use Rattle.bx_syntax.specs.declared.tree.Direction.{Direction}
@@ -37,7 +37,9 @@ name_reads [] x e = absurd (cc)
 name_reads (Mark s ∷ ts) x e = absurd (cc)
 name_reads (GateWord s ∷ ts) x e = absurd (cc)
 name_reads (Bit s ∷ ts) x e = absurd (cc)
-name_reads (Other ∷ ts) x e = absurd (cc)
+name_reads (Number ∷ ts) x e = absurd (cc)
+name_reads (Reserved ∷ ts) x e = absurd (cc)
+name_reads (Symbol b ∷ ts) x e = absurd (cc)
 
 past_mark : (s r : Sign) (ts : List Terminal) → Mark r ∷ ts ≡ Mark s ∷ ts ⊎ (next_is s (Mark r ∷ ts) ≡ false)
 past_mark s r ts = by_rest (behind s (Mark r ∷ ts)) refl
@@ -60,7 +62,9 @@ past_is s [] = inl refl
 past_is s (Name n ∷ ts) = inl refl
 past_is s (GateWord n ∷ ts) = inl refl
 past_is s (Bit n ∷ ts) = inl refl
-past_is s (Other ∷ ts) = inl refl
+past_is s (Number ∷ ts) = inl refl
+past_is s (Reserved ∷ ts) = inl refl
+past_is s (Symbol b ∷ ts) = inl refl
 
 past_name_is : (ts : List Terminal) → IsLabel ts (past_name ts)
 past_name_is (Name n ∷ ts) = inr (n, refl)
@@ -68,7 +72,9 @@ past_name_is [] = inl refl
 past_name_is (Mark s ∷ ts) = inl refl
 past_name_is (GateWord n ∷ ts) = inl refl
 past_name_is (Bit n ∷ ts) = inl refl
-past_name_is (Other ∷ ts) = inl refl
+past_name_is (Number ∷ ts) = inl refl
+past_name_is (Reserved ∷ ts) = inl refl
+past_name_is (Symbol b ∷ ts) = inl refl
 
 pub there : {A : Type 0} (IsX : A → Between) (ts : List Terminal) {a : A} {rest : List Terminal} {x : A × List Terminal} →
     ◌≡◌ {A = Option (A × List Terminal)} (Some (a, rest)) (Some x) → IsX a ts rest → IsX x.0 ts x.1

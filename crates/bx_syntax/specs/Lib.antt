@@ -8,5 +8,7 @@ pub mod Codes
 pub mod Repeats
 pub mod ReadsModules
 pub mod Grammar
+pub mod Words
+pub mod Tables
 pub mod Terminals
 pub mod Texts

@@ -23,18 +23,13 @@ abbrev pub started : Tree → Tail → Tree
 started t done = t
 started t (link o u ts) = joined t o u ts
 
--- the same, where the code keeps a list; it makes none that is empty, which would say no more than parentheses
-abbrev pub levelled : Tree → Tail → Tree
-levelled t done = group t
-levelled t (link o u ts) = joined t o u ts
-
 abbrev mutual
   pub tree : Expr → Tree
   tree (Net n) = net n
   tree (Bit b) = bit b
   tree (Not' _ e) = inverse (tree e)
   tree (Group' _ e) = group (tree e)
-  tree (Joined' _ e _ operands) = levelled (tree e) (row_tail operands)
+  tree (Joined' _ e o _ f _ operands) = joined (tree e) o (tree f) (row_tail operands)
 
   pub row_tail : {n : _} → Row_of-Operand n → Tail
   row_tail end_of-Operand = done

@@ -7,7 +7,7 @@ use crate::stop::Wanted;
 use crate::terminals::place_of;
 use bx_lex::{Token, TokenKind};
 
-/// The symbols of which each stands for a construct, wherever it stands.
+// The symbols of which each stands for a construct, wherever it stands.
 const SYMBOLS: [(u8, Construct); 13] = [
     (b'[', Construct::Vector),
     (b'?', Construct::Ternary),
@@ -24,30 +24,8 @@ const SYMBOLS: [(u8, Construct); 13] = [
     (b'`', Construct::Directive),
 ];
 
-/// The construct that a symbol stands for.
-fn symbol_construct(bytes: &[u8]) -> Option<Construct> {
-    let byte = bytes.first()?;
-    for (symbol, construct) in &SYMBOLS {
-        if symbol == byte {
-            return Some(*construct);
-        }
-    }
-    None
-}
-
-/// The construct of a word. A refused word is one anywhere; a name is one where an item may begin,
-/// and `module` where the text should end.
-fn word_construct(bytes: &[u8], wanted: Wanted) -> Option<Construct> {
-    match place_of(bytes, &RESERVED) {
-        None if wanted == Wanted::Item => Some(Construct::Instance),
-        None => None,
-        Some(0) if wanted == Wanted::End => Some(Construct::Second),
-        Some(place) => (place >= USED.len()).then_some(Construct::Reserved),
-    }
-}
-
-/// The construct that a token stands for, where something else was wanted.
-pub fn construct(text: &[u8], token: Token, wanted: Wanted) -> Option<Construct>
+// The construct that a token stands for, where something else was wanted.
+pub(crate) fn construct(text: &[u8], token: Token, wanted: Wanted) -> Option<Construct>
     requires order { token.start < token.end }
     requires inside { token.end ≤ length text.now }
 {
@@ -58,4 +36,26 @@ pub fn construct(text: &[u8], token: Token, wanted: Wanted) -> Option<Construct>
         TokenKind::Number => (wanted == Wanted::Primary).then_some(Construct::Number),
         TokenKind::Symbol => symbol_construct(bytes),
     }
+}
+
+// The construct of a word. A refused word is one anywhere; a name is one where an item may begin,
+// and `module` where the text should end.
+fn word_construct(bytes: &[u8], wanted: Wanted) -> Option<Construct> {
+    match place_of(bytes, &RESERVED) {
+        None if wanted == Wanted::Item => Some(Construct::Instance),
+        None => None,
+        Some(0) if wanted == Wanted::End => Some(Construct::Second),
+        Some(place) => (place >= USED.len()).then_some(Construct::Reserved),
+    }
+}
+
+// The construct that a symbol stands for.
+fn symbol_construct(bytes: &[u8]) -> Option<Construct> {
+    let byte = bytes.first()?;
+    for (symbol, construct) in &SYMBOLS {
+        if symbol == byte {
+            return Some(*construct);
+        }
+    }
+    None
 }

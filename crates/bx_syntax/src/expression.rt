@@ -1,6 +1,6 @@
 //! The reader of expressions. It recurses at `~` and `(` alone, and no deeper than it is told.
 ghost use Rattle.std.specs.Prelude.{◌≡◌, ◌∷◌, IfOk, IfErr};
-ghost use Rattle.bx_syntax.specs.Trees.{tree, tail, started};
+ghost use Rattle.bx_syntax.specs.Trees.{tree, tail, joined};
 ghost use Rattle.bx_syntax.specs.ReadsExpressions.{primary_at, level_at, tail_at, joined_at, inverse_at, group_at};
 ghost use Rattle.bx_syntax.specs.ReadsModules.{expression};
 ghost use Rattle.bx_syntax.specs.Gives.{Gives};
@@ -8,105 +8,62 @@ ghost use Rattle.bx_syntax.specs.Gives.{Gives};
 use crate::lookahead::{expect, operator_at, take};
 use crate::stop::{Stop, Wanted};
 use crate::terminal::{Mark, Terminal};
-use crate::tree::{Expr, Operand};
+use crate::tree::{Expr, Operand, Operator};
 use std::alloc::Global;
 use std::collections::VecDeque;
 
-/// The level of expressions: operands of the levels below it are joined by `&`, `^` and `|`.
+// How deep `~` and `(` may nest.
+pub(crate) const DEEPEST: u32 = 256;
+
+// The level of expressions: operands of the levels below it are joined by `&`, `^` and `|`.
 const EXPRESSION: u8 = 3;
 
-/// What a `~` negates, where it stands before so many terminals.
-#[cycle(expressions)]
-fn inverse(
-    alloc: Global,
-    terminals: &mut VecDeque<Terminal>,
-    left: usize,
-    depth: u32,
-) -> Result<Expr, Stop>
-    ensures { Gives tree terminals.new.items result (inverse_at depth terminals.old.items) }
+// An expression.
+#[tactic(auto, unfolding(crate::specs::ReadsModules::expression))]
+pub(crate) fn expression(alloc: Global, terminals: &mut VecDeque<Terminal>) -> Result<Expr, Stop>
+    ensures { Gives tree terminals.new.items result (expression DEEPEST terminals.old.items) }
 {
-    let inner = depth.checked_sub(1).ok_or(Stop::Deep(left))?;
-    let expr = primary(alloc, terminals, inner)?;
-    Ok(Expr::Not(Box::new(alloc, expr)?))
+    level(alloc, terminals, EXPRESSION, DEEPEST)
 }
 
-/// What stands behind a `(`, where this stands before so many terminals.
+// An operand of a level in which nothing nests deeper.
 #[cycle(expressions)]
-fn group(
+fn level(
     alloc: Global,
     terminals: &mut VecDeque<Terminal>,
-    left: usize,
+    level_number: u8,
     depth: u32,
 ) -> Result<Expr, Stop>
-    ensures { Gives tree terminals.new.items result (group_at depth terminals.old.items) }
+    ensures { Gives tree terminals.new.items result (level_at (primary_at depth) level_number terminals.old.items) }
 {
-    let inner = depth.checked_sub(1).ok_or(Stop::Deep(left))?;
-    let expr = level(alloc, terminals, EXPRESSION, inner)?;
-    expect(terminals, Mark::Close)?;
-    Ok(Expr::Group(Box::new(alloc, expr)?))
-}
-
-/// What a mark begins as a primary, where it stands before so many terminals.
-#[cycle(expressions)]
-fn nested(
-    alloc: Global,
-    mark: Mark,
-    terminals: &mut VecDeque<Terminal>,
-    left: usize,
-    depth: u32,
-) -> Result<Expr, Stop>
-    ensures { Gives tree terminals.new.items result (primary_at depth (Terminal.Mark mark ∷ terminals.old.items)) }
-{
-    match mark {
-        Mark::Tilde => inverse(alloc, terminals, left, depth),
-        Mark::Open => group(alloc, terminals, left, depth),
-        _ => Err(Stop::Bad(left, Wanted::Primary)),
+    match level_number.checked_sub(1) {
+        None => primary(alloc, terminals, depth),
+        Some(below) => chain(alloc, terminals, below, depth),
     }
 }
 
-/// What a terminal begins as a primary, where it stands before so many.
+// Operands of a level, joined.
 #[cycle(expressions)]
-fn primary_from(
+#[tactic(auto, unfolding(crate::specs::ReadsExpressions::joined_at))]
+fn chain(
     alloc: Global,
-    front: Terminal,
     terminals: &mut VecDeque<Terminal>,
-    left: usize,
+    below: u8,
     depth: u32,
 ) -> Result<Expr, Stop>
-    ensures { Gives tree terminals.new.items result (primary_at depth (front ∷ terminals.old.items)) }
+    ensures { Gives tree terminals.new.items result (joined_at (level_at (primary_at depth) below) below terminals.old.items) }
 {
-    match front {
-        Terminal::Name(name) => Ok(Expr::Net(name)),
-        Terminal::Bit(bit) => Ok(Expr::Bit(bit)),
-        Terminal::Mark(mark) => nested(alloc, mark, terminals, left, depth),
-        Terminal::Gate(_) | Terminal::Other => Err(Stop::Bad(left, Wanted::Primary)),
-    }
-}
-
-/// A primary in which nothing nests deeper.
-#[cycle(expressions)]
-fn primary(alloc: Global, terminals: &mut VecDeque<Terminal>, depth: u32) -> Result<Expr, Stop>
-    ensures { Gives tree terminals.new.items result (primary_at depth terminals.old.items) }
-{
-    let left = terminals.len();
-    let Some(front) = take(terminals) else {
-        return Err(Stop::Bad(left, Wanted::Primary));
-    };
-    primary_from(alloc, front, terminals, left, depth)
-}
-
-/// Operands of one level, joined.
-fn joined(alloc: Global, first: Expr, rest: Vec<Operand>) -> Result<Expr, Stop>
-    ensures found { IfOk result (λ e. tree e ≡ started (tree first) (tail rest.items)) }
-    ensures failed { IfErr result (λ e. e ≡ Stop.NoMemory) }
-{
-    if rest.is_empty() {
+    let first = level(alloc, terminals, below, depth)?;
+    let Some(operator) = operator_at(terminals, below) else {
         return Ok(first);
-    }
-    Ok(Expr::Joined(Box::new(alloc, first)?, rest))
+    };
+    take(terminals);
+    let second = level(alloc, terminals, below, depth)?;
+    let more = operands(alloc, terminals, below, depth)?;
+    joined(alloc, first, operator, second, more)
 }
 
-/// Further operands of a level, each with the operator before it.
+// Further operands of a level, each with the operator before it.
 #[cycle(expressions)]
 fn operands(
     alloc: Global,
@@ -125,45 +82,100 @@ fn operands(
     Ok(operands)
 }
 
-/// Operands of a level, joined.
-#[cycle(expressions)]
-#[tactic(auto, unfolding(crate::specs::ReadsExpressions::joined_at))]
-fn chain(
+// Two operands of one level and further ones, joined.
+fn joined(
     alloc: Global,
-    terminals: &mut VecDeque<Terminal>,
-    below: u8,
-    depth: u32,
+    first: Expr,
+    operator: Operator,
+    second: Expr,
+    more: Vec<Operand>,
 ) -> Result<Expr, Stop>
-    ensures { Gives tree terminals.new.items result (joined_at (level_at (primary_at depth) below) below terminals.old.items) }
+    ensures found { IfOk result (λ e. tree e ≡ joined (tree first) operator (tree second) (tail more.items)) }
+    ensures failed { IfErr result (λ e. e ≡ Stop.NoMemory) }
 {
-    let first = level(alloc, terminals, below, depth)?;
-    let operands = operands(alloc, terminals, below, depth)?;
-    joined(alloc, first, operands)
+    let first = Box::new(alloc, first)?;
+    let second = Box::new(alloc, second)?;
+    Ok(Expr::Joined(first, operator, second, more))
 }
 
-/// An operand of a level in which nothing nests deeper.
+// A primary in which nothing nests deeper.
 #[cycle(expressions)]
-fn level(
+fn primary(alloc: Global, terminals: &mut VecDeque<Terminal>, depth: u32) -> Result<Expr, Stop>
+    ensures { Gives tree terminals.new.items result (primary_at depth terminals.old.items) }
+{
+    let left = terminals.len();
+    let Some(front) = take(terminals) else {
+        return Err(Stop::Bad(left, Wanted::Primary));
+    };
+    primary_from(alloc, front, terminals, left, depth)
+}
+
+// What a terminal begins as a primary, where it stands before so many.
+#[cycle(expressions)]
+fn primary_from(
     alloc: Global,
+    front: Terminal,
     terminals: &mut VecDeque<Terminal>,
-    level_number: u8,
+    left: usize,
     depth: u32,
 ) -> Result<Expr, Stop>
-    ensures { Gives tree terminals.new.items result (level_at (primary_at depth) level_number terminals.old.items) }
+    ensures { Gives tree terminals.new.items result (primary_at depth (front ∷ terminals.old.items)) }
 {
-    match level_number.checked_sub(1) {
-        None => primary(alloc, terminals, depth),
-        Some(below) => chain(alloc, terminals, below, depth),
+    match front {
+        Terminal::Name(name) => Ok(Expr::Net(name)),
+        Terminal::Bit(bit) => Ok(Expr::Bit(bit)),
+        Terminal::Mark(mark) => nested(alloc, mark, terminals, left, depth),
+        Terminal::Gate(_) | Terminal::Number | Terminal::Reserved | Terminal::Symbol(_) => {
+            Err(Stop::Bad(left, Wanted::Primary))
+        }
     }
 }
 
-/// How deep `~` and `(` may nest.
-pub const DEEPEST: u32 = 256;
-
-/// An expression.
-#[tactic(auto, unfolding(crate::specs::ReadsModules::expression))]
-pub fn expression(alloc: Global, terminals: &mut VecDeque<Terminal>) -> Result<Expr, Stop>
-    ensures { Gives tree terminals.new.items result (expression DEEPEST terminals.old.items) }
+// What a mark begins as a primary, where it stands before so many terminals.
+#[cycle(expressions)]
+fn nested(
+    alloc: Global,
+    mark: Mark,
+    terminals: &mut VecDeque<Terminal>,
+    left: usize,
+    depth: u32,
+) -> Result<Expr, Stop>
+    ensures { Gives tree terminals.new.items result (primary_at depth (Terminal.Mark mark ∷ terminals.old.items)) }
 {
-    level(alloc, terminals, EXPRESSION, DEEPEST)
+    match mark {
+        Mark::Tilde => inverse(alloc, terminals, left, depth),
+        Mark::Open => group(alloc, terminals, left, depth),
+        _ => Err(Stop::Bad(left, Wanted::Primary)),
+    }
+}
+
+// What a `~` negates, where it stands before so many terminals.
+#[cycle(expressions)]
+fn inverse(
+    alloc: Global,
+    terminals: &mut VecDeque<Terminal>,
+    left: usize,
+    depth: u32,
+) -> Result<Expr, Stop>
+    ensures { Gives tree terminals.new.items result (inverse_at depth terminals.old.items) }
+{
+    let inner = depth.checked_sub(1).ok_or(Stop::Deep(left))?;
+    let expr = primary(alloc, terminals, inner)?;
+    Ok(Expr::Not(Box::new(alloc, expr)?))
+}
+
+// What stands behind a `(`, where this stands before so many terminals.
+#[cycle(expressions)]
+fn group(
+    alloc: Global,
+    terminals: &mut VecDeque<Terminal>,
+    left: usize,
+    depth: u32,
+) -> Result<Expr, Stop>
+    ensures { Gives tree terminals.new.items result (group_at depth terminals.old.items) }
+{
+    let inner = depth.checked_sub(1).ok_or(Stop::Deep(left))?;
+    let expr = level(alloc, terminals, EXPRESSION, inner)?;
+    expect(terminals, Mark::Close)?;
+    Ok(Expr::Group(Box::new(alloc, expr)?))
 }

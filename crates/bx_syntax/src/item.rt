@@ -14,63 +14,41 @@ use crate::tree::{Direction, Part};
 use std::alloc::Global;
 use std::collections::VecDeque;
 
-/// The kind of item that a word begins.
-fn kind_of(mark: Mark) -> Option<Kind>
-    ensures { result ≡ kind_of mark }
+// The items of a module.
+pub(crate) fn items(
+    alloc: Global,
+    terminals: &mut VecDeque<Terminal>,
+) -> Result<Vec<Vec<Part>>, Stop>
+    ensures { Gives (λ v. (map parts v.items, tt)) terminals.new.items result (repeated item_next (one_item DEEPEST) tt terminals.old.items) }
 {
-    match mark {
-        Mark::Input => Some(Kind::Declaration(Direction::Input)),
-        Mark::Output => Some(Kind::Declaration(Direction::Output)),
-        Mark::Wire => Some(Kind::Wire),
-        Mark::Assign => Some(Kind::Assign),
-        _ => None,
+    let mut items = Vec::new(alloc);
+    'more: while item_next(terminals) {
+        let item = item(alloc, terminals)?;
+        items.push(item)?;
     }
+    Ok(items)
 }
 
-/// The kind of item that a mark begins, where it stands before so many terminals.
-fn kind_at_mark(terminals: &mut VecDeque<Terminal>, mark: Mark, left: usize) -> Result<Kind, Stop>
-    ensures { Gives (λ k. k) terminals.new.items result (kind_at (Terminal.Mark mark ∷ terminals.old.items)) }
+// Whether one more item is to be read: something stands there, and it isn't `endmodule`.
+fn item_next(terminals: &VecDeque<Terminal>) -> bool
+    ensures { result ≡ item_next tt terminals.now.items }
 {
-    let Some(kind) = kind_of(mark) else {
-        return Err(Stop::Bad(left, Wanted::Item));
-    };
-    if let Kind::Declaration(_) = kind {
-        skip(terminals, Mark::Wire);
-    }
-    Ok(kind)
+    !terminals.is_empty() && !next_is(terminals, Mark::EndModule)
 }
 
-/// The kind of item that a terminal begins, where it stands before so many.
-fn kind_from(terminals: &mut VecDeque<Terminal>, front: Terminal, left: usize) -> Result<Kind, Stop>
-    ensures { Gives (λ k. k) terminals.new.items result (kind_at (front ∷ terminals.old.items)) }
+// An item, as the list of its parts.
+#[tactic(auto, unfolding(crate::specs::ReadsModules::item_at))]
+fn item(alloc: Global, terminals: &mut VecDeque<Terminal>) -> Result<Vec<Part>, Stop>
+    ensures { Gives parts terminals.new.items result (item_at DEEPEST terminals.old.items) }
 {
-    match front {
-        Terminal::Gate(op) => Ok(Kind::Gate(op)),
-        Terminal::Mark(mark) => kind_at_mark(terminals, mark, left),
-        _ => Err(Stop::Bad(left, Wanted::Item)),
-    }
+    let kind = kind(terminals)?;
+    let first = part(alloc, terminals, kind)?;
+    let parts = more_parts(alloc, terminals, kind, first)?;
+    expect(terminals, Mark::Semicolon)?;
+    Ok(parts)
 }
 
-/// The kind of the next item, by its first word.
-fn kind(terminals: &mut VecDeque<Terminal>) -> Result<Kind, Stop>
-    ensures { Gives (λ k. k) terminals.new.items result (kind_at terminals.old.items) }
-{
-    let left = terminals.len();
-    let Some(front) = take(terminals) else {
-        return Err(Stop::Bad(left, Wanted::Item));
-    };
-    kind_from(terminals, front, left)
-}
-
-/// A part behind a comma.
-fn next_part(alloc: Global, terminals: &mut VecDeque<Terminal>, kind: Kind) -> Result<Part, Stop>
-    ensures { Gives (λ p. (part p, tt)) terminals.new.items result (comma_step (part_at DEEPEST kind) tt terminals.old.items) }
-{
-    expect(terminals, Mark::Comma)?;
-    part(alloc, terminals, kind)
-}
-
-/// The parts of an item, of which the first is read.
+// The parts of an item, of which the first is read.
 fn more_parts(
     alloc: Global,
     terminals: &mut VecDeque<Terminal>,
@@ -87,33 +65,58 @@ fn more_parts(
     Ok(parts)
 }
 
-/// An item, as the list of its parts.
-#[tactic(auto, unfolding(crate::specs::ReadsModules::item_at))]
-fn item(alloc: Global, terminals: &mut VecDeque<Terminal>) -> Result<Vec<Part>, Stop>
-    ensures { Gives parts terminals.new.items result (item_at DEEPEST terminals.old.items) }
+// A part behind a comma.
+fn next_part(alloc: Global, terminals: &mut VecDeque<Terminal>, kind: Kind) -> Result<Part, Stop>
+    ensures { Gives (λ p. (part p, tt)) terminals.new.items result (comma_step (part_at DEEPEST kind) tt terminals.old.items) }
 {
-    let kind = kind(terminals)?;
-    let first = part(alloc, terminals, kind)?;
-    let parts = more_parts(alloc, terminals, kind, first)?;
-    expect(terminals, Mark::Semicolon)?;
-    Ok(parts)
+    expect(terminals, Mark::Comma)?;
+    part(alloc, terminals, kind)
 }
 
-/// Whether one more item is to be read: something stands there, and it isn't `endmodule`.
-fn item_next(terminals: &VecDeque<Terminal>) -> bool
-    ensures { result ≡ item_next tt terminals.now.items }
+// The kind of the next item, by its first word.
+fn kind(terminals: &mut VecDeque<Terminal>) -> Result<Kind, Stop>
+    ensures { Gives (λ k. k) terminals.new.items result (kind_at terminals.old.items) }
 {
-    !terminals.is_empty() && !next_is(terminals, Mark::EndModule)
+    let left = terminals.len();
+    let Some(front) = take(terminals) else {
+        return Err(Stop::Bad(left, Wanted::Item));
+    };
+    kind_from(terminals, front, left)
 }
 
-/// The items of a module.
-pub fn items(alloc: Global, terminals: &mut VecDeque<Terminal>) -> Result<Vec<Vec<Part>>, Stop>
-    ensures { Gives (λ v. (map parts v.items, tt)) terminals.new.items result (repeated item_next (one_item DEEPEST) tt terminals.old.items) }
+// The kind of item that a terminal begins, where it stands before so many.
+fn kind_from(terminals: &mut VecDeque<Terminal>, front: Terminal, left: usize) -> Result<Kind, Stop>
+    ensures { Gives (λ k. k) terminals.new.items result (kind_at (front ∷ terminals.old.items)) }
 {
-    let mut items = Vec::new(alloc);
-    'more: while item_next(terminals) {
-        let item = item(alloc, terminals)?;
-        items.push(item)?;
+    match front {
+        Terminal::Gate(op) => Ok(Kind::Gate(op)),
+        Terminal::Mark(mark) => kind_at_mark(terminals, mark, left),
+        _ => Err(Stop::Bad(left, Wanted::Item)),
     }
-    Ok(items)
+}
+
+// The kind of item that a mark begins, where it stands before so many terminals.
+fn kind_at_mark(terminals: &mut VecDeque<Terminal>, mark: Mark, left: usize) -> Result<Kind, Stop>
+    ensures { Gives (λ k. k) terminals.new.items result (kind_at (Terminal.Mark mark ∷ terminals.old.items)) }
+{
+    let Some(kind) = kind_of(mark) else {
+        return Err(Stop::Bad(left, Wanted::Item));
+    };
+    if let Kind::Declaration(_) = kind {
+        skip(terminals, Mark::Wire);
+    }
+    Ok(kind)
+}
+
+// The kind of item that a word begins.
+fn kind_of(mark: Mark) -> Option<Kind>
+    ensures { result ≡ kind_of mark }
+{
+    match mark {
+        Mark::Input => Some(Kind::Declaration(Direction::Input)),
+        Mark::Output => Some(Kind::Declaration(Direction::Output)),
+        Mark::Wire => Some(Kind::Wire),
+        Mark::Assign => Some(Kind::Assign),
+        _ => None,
+    }
 }

@@ -1,11 +1,10 @@
 //! Laws of the definitions that the contracts cite. Nothing here runs.
-ghost use Rattle.std.specs.Prelude.{◌≡◌, ◌<◌, ◌≤◌, ◌^◌, ℕ, List, codes, length};
+ghost use Rattle.std.specs.Prelude.{◌≡◌, ◌<◌, ◌≤◌, ◌^◌, ◌↔◌, ℕ, List, Contains, codes, length};
 ghost use Rattle.bx_logic.specs.declared.op.Op.TheVariants.{Buf, Not, And, Or, Nand, Nor, Xor, Xnor};
-ghost use Rattle.bx_syntax.specs.declared.reserved.TheConstants.{RESERVED};
 ghost use Rattle.bx_syntax.specs.declared.terminal.Mark.TheVariants.{Module, EndModule, Input, Output, Wire, Assign};
 ghost use Rattle.bx_syntax.specs.declared.terminal.Terminal.{Terminal};
-ghost use Rattle.bx_syntax.specs.declared.terminal.Terminal.TheVariants.{Mark, Gate, Name, Other};
-ghost use Rattle.bx_syntax.specs.Terminals.{word_terminal};
+ghost use Rattle.bx_syntax.specs.declared.terminal.Terminal.TheVariants.{Mark, Gate, Name, Reserved};
+ghost use Rattle.bx_syntax.specs.Words.{refused_words, reserved_words, word_terminal};
 ghost use Rattle.bx_syntax.specs.Parts.{ModuleTree};
 ghost use Rattle.bx_syntax.specs.Sizes.{module_size};
 ghost use Rattle.bx_syntax.specs.Grammar.{IsModule};
@@ -16,14 +15,19 @@ pub fn one_tree()
     ensures { (a b : ℕ) (m n : ModuleTree) (ts : List Terminal) → IsModule a m ts → IsModule b n ts → m ≡ n }
 {}
 
-/// What the words of the language are to the grammar: each that it uses is its own terminal, one that is
-/// refused is none of the grammar's, and any other is a name.
-#[tactic(auto, unfolding(crate::specs::Terminals::word_terminal))]
-pub fn what_words_are()
+/// Each word that the grammar uses is its own terminal.
+#[tactic(auto, unfolding(crate::specs::Words::word_terminal))]
+pub fn what_used_words_are()
     ensures marks { (word_terminal (codes "module") ≡ Mark Module) × (word_terminal (codes "endmodule") ≡ Mark EndModule) × (word_terminal (codes "input") ≡ Mark Input) × (word_terminal (codes "output") ≡ Mark Output) × (word_terminal (codes "wire") ≡ Mark Wire) × (word_terminal (codes "assign") ≡ Mark Assign) }
     ensures gates { (word_terminal (codes "and") ≡ Gate And) × (word_terminal (codes "or") ≡ Gate Or) × (word_terminal (codes "nand") ≡ Gate Nand) × (word_terminal (codes "nor") ≡ Gate Nor) × (word_terminal (codes "xor") ≡ Gate Xor) × (word_terminal (codes "xnor") ≡ Gate Xnor) × (word_terminal (codes "buf") ≡ Gate Buf) × (word_terminal (codes "not") ≡ Gate Not) }
-    ensures refused { (word_terminal (codes "inout") ≡ Other) × (word_terminal (codes "vectored") ≡ Other) × (length RESERVED ≡ 65) }
-    ensures names { (word_terminal (codes "Module") ≡ Name (codes "Module")) × (word_terminal (codes "begin") ≡ Name (codes "begin")) }
+{}
+
+/// A word that is refused is none of the grammar's, and so no name. A word is a name exactly where it is
+/// neither used nor refused, and then the name of these very bytes.
+pub fn which_words_are_names()
+    ensures refused { (word : List ℕ) → Contains refused_words word → word_terminal word ≡ Reserved }
+    ensures names { (word : List ℕ) → (word_terminal word ≡ Name word) ↔ ¬ (Contains reserved_words word) }
+    ensures same { (word name : List ℕ) → word_terminal word ≡ Name name → word ≡ name }
 {}
 
 /// A module has no more names, operators and bits than its text has terminals.

@@ -15,7 +15,7 @@ mod lookahead;
 mod module;
 mod part;
 mod read;
-pub mod reserved;
+mod reserved;
 mod stop;
 pub mod terminal;
 mod terminals;

@@ -11,8 +11,8 @@ use crate::tree::Operator;
 use bx_logic::Name;
 use std::collections::VecDeque;
 
-/// Takes the terminal at the front.
-pub fn take(terminals: &mut VecDeque<Terminal>) -> Option<Terminal>
+// Takes the terminal at the front.
+pub(crate) fn take(terminals: &mut VecDeque<Terminal>) -> Option<Terminal>
     ensures taken { IfSome result (λ t. terminals.old.items ≡ t ∷ terminals.new.items) }
     ensures none { IfNone result (terminals.old.items ≡ []) }
     ensures rest { terminals.new.items ≡ drop 1 terminals.old.items }
@@ -20,8 +20,8 @@ pub fn take(terminals: &mut VecDeque<Terminal>) -> Option<Terminal>
     terminals.pop_front()
 }
 
-/// Takes a mark from the front.
-pub fn expect(terminals: &mut VecDeque<Terminal>, mark: Mark) -> Result<(), Stop>
+// Takes a mark from the front.
+pub(crate) fn expect(terminals: &mut VecDeque<Terminal>, mark: Mark) -> Result<(), Stop>
     ensures { GivesRest terminals.new.items result (behind mark terminals.old.items) }
 {
     let left = terminals.len();
@@ -31,15 +31,15 @@ pub fn expect(terminals: &mut VecDeque<Terminal>, mark: Mark) -> Result<(), Stop
     }
 }
 
-/// Whether a mark stands at the front.
-pub fn next_is(terminals: &VecDeque<Terminal>, mark: Mark) -> bool
+// Whether a mark stands at the front.
+pub(crate) fn next_is(terminals: &VecDeque<Terminal>, mark: Mark) -> bool
     ensures { result ≡ next_is mark terminals.now.items }
 {
     matches!(terminals.front(), Some(Terminal::Mark(found)) if *found == mark)
 }
 
-/// Takes a mark from the front, if it stands there.
-pub fn skip(terminals: &mut VecDeque<Terminal>, mark: Mark)
+// Takes a mark from the front, if it stands there.
+pub(crate) fn skip(terminals: &mut VecDeque<Terminal>, mark: Mark)
     ensures { terminals.new.items ≡ past mark terminals.old.items }
 {
     if next_is(terminals, mark) {
@@ -47,8 +47,8 @@ pub fn skip(terminals: &mut VecDeque<Terminal>, mark: Mark)
     }
 }
 
-/// Takes a name from the front, if one stands there.
-pub fn skip_name(terminals: &mut VecDeque<Terminal>)
+// Takes a name from the front, if one stands there.
+pub(crate) fn skip_name(terminals: &mut VecDeque<Terminal>)
     ensures { terminals.new.items ≡ past_name terminals.old.items }
 {
     if let Some(Terminal::Name(_)) = terminals.front() {
@@ -56,8 +56,8 @@ pub fn skip_name(terminals: &mut VecDeque<Terminal>)
     }
 }
 
-/// Takes a name from the front.
-pub fn name(terminals: &mut VecDeque<Terminal>) -> Result<Name, Stop>
+// Takes a name from the front.
+pub(crate) fn name(terminals: &mut VecDeque<Terminal>) -> Result<Name, Stop>
     ensures { Gives (λ n. n) terminals.new.items result (name_at terminals.old.items) }
 {
     let left = terminals.len();
@@ -67,18 +67,18 @@ pub fn name(terminals: &mut VecDeque<Terminal>) -> Result<Name, Stop>
     }
 }
 
-/// The level of the operands between which an operator stands.
-fn rank(operator: Operator) -> u8
-    ensures { result ≡ rank operator }
+// The operator at the front, if it stands between operands of this level.
+pub(crate) fn operator_at(terminals: &VecDeque<Terminal>, level: u8) -> Option<Operator>
+    ensures { result ≡ operator_at level terminals.now.items }
 {
-    match operator {
-        Operator::And => 0,
-        Operator::Xor | Operator::Xnor => 1,
-        Operator::Or => 2,
-    }
+    let Terminal::Mark(mark) = terminals.front()? else {
+        return None;
+    };
+    let operator = operator_of(*mark)?;
+    (rank(operator) == level).then_some(operator)
 }
 
-/// The operator that a mark is.
+// The operator that a mark is.
 fn operator_of(mark: Mark) -> Option<Operator>
     ensures { result ≡ operator_of mark }
 {
@@ -91,13 +91,13 @@ fn operator_of(mark: Mark) -> Option<Operator>
     }
 }
 
-/// The operator at the front, if it stands between operands of this level.
-pub fn operator_at(terminals: &VecDeque<Terminal>, level: u8) -> Option<Operator>
-    ensures { result ≡ operator_at level terminals.now.items }
+// The level of the operands between which an operator stands.
+fn rank(operator: Operator) -> u8
+    ensures { result ≡ rank operator }
 {
-    let Terminal::Mark(mark) = terminals.front()? else {
-        return None;
-    };
-    let operator = operator_of(*mark)?;
-    (rank(operator) == level).then_some(operator)
+    match operator {
+        Operator::And => 0,
+        Operator::Xor | Operator::Xnor => 1,
+        Operator::Or => 2,
+    }
 }

@@ -15,17 +15,16 @@ use bx_logic::Name;
 use std::alloc::Global;
 use std::collections::VecDeque;
 
-/// That nothing is left.
-fn end(terminals: &VecDeque<Terminal>) -> Result<(), Stop>
-    ensures { GivesRest terminals.now.items result (at_end terminals.now.items) }
+// A module and nothing behind it.
+pub(crate) fn module(alloc: Global, terminals: &mut VecDeque<Terminal>) -> Result<Module, Stop>
+    requires { length terminals.old.items < 2 ^ 32 }
+    ensures { Gives (λ m. m) terminals.new.items result (module_at DEEPEST terminals.old.items) }
 {
-    if terminals.is_empty() {
-        return Ok(());
-    }
-    Err(Stop::Bad(terminals.len(), Wanted::End))
+    let (name, ports, items) = fields(alloc, terminals)?;
+    Ok(Module::new(name, ports, items))
 }
 
-/// What a module keeps, with nothing behind it.
+// What a module keeps, with nothing behind it.
 #[tactic(auto, unfolding(crate::specs::ReadsModules::module_at))]
 fn fields(
     alloc: Global,
@@ -43,11 +42,12 @@ fn fields(
     Ok((name, ports, items))
 }
 
-/// A module and nothing behind it.
-pub fn module(alloc: Global, terminals: &mut VecDeque<Terminal>) -> Result<Module, Stop>
-    requires { length terminals.old.items < 2 ^ 32 }
-    ensures { Gives (λ m. m) terminals.new.items result (module_at DEEPEST terminals.old.items) }
+// That nothing is left.
+fn end(terminals: &VecDeque<Terminal>) -> Result<(), Stop>
+    ensures { GivesRest terminals.now.items result (at_end terminals.now.items) }
 {
-    let (name, ports, items) = fields(alloc, terminals)?;
-    Ok(Module::new(name, ports, items))
+    if terminals.is_empty() {
+        return Ok(());
+    }
+    Err(Stop::Bad(terminals.len(), Wanted::End))
 }

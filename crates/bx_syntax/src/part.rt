@@ -24,7 +24,23 @@ pub enum Kind {
     Gate(Op),
 }
 
-/// A wire, and what drives it where that stands there.
+// A part of an item of a kind.
+pub(crate) fn part(
+    alloc: Global,
+    terminals: &mut VecDeque<Terminal>,
+    kind: Kind,
+) -> Result<Part, Stop>
+    ensures { Gives part terminals.new.items result (part_at DEEPEST kind terminals.old.items) }
+{
+    match kind {
+        Kind::Declaration(direction) => Ok(Part::Declaration(direction, name(terminals)?)),
+        Kind::Wire => wire(alloc, terminals),
+        Kind::Assign => assign(alloc, terminals),
+        Kind::Gate(op) => gate(alloc, terminals, op),
+    }
+}
+
+// A wire, and what drives it where that stands there.
 #[tactic(auto, unfolding(crate::specs::ReadsModules::wire_at))]
 fn wire(alloc: Global, terminals: &mut VecDeque<Terminal>) -> Result<Part, Stop>
     ensures { Gives part terminals.new.items result (wire_at DEEPEST terminals.old.items) }
@@ -38,7 +54,7 @@ fn wire(alloc: Global, terminals: &mut VecDeque<Terminal>) -> Result<Part, Stop>
     Ok(Part::Wire(name, Some(driver)))
 }
 
-/// An assignment.
+// An assignment.
 #[tactic(auto, unfolding(crate::specs::ReadsModules::assign_at))]
 fn assign(alloc: Global, terminals: &mut VecDeque<Terminal>) -> Result<Part, Stop>
     ensures { Gives part terminals.new.items result (assign_at DEEPEST terminals.old.items) }
@@ -49,15 +65,53 @@ fn assign(alloc: Global, terminals: &mut VecDeque<Terminal>) -> Result<Part, Sto
     Ok(Part::Assign(name, driver))
 }
 
-/// An expression behind a comma.
-fn next_expression(alloc: Global, terminals: &mut VecDeque<Terminal>) -> Result<Expr, Stop>
-    ensures { Gives (λ e. (tree e, tt)) terminals.new.items result (comma_step (expression DEEPEST) tt terminals.old.items) }
+// A gate, behind its keyword or a comma.
+#[tactic(auto, unfolding(crate::specs::ReadsModules::gate_at))]
+fn gate(alloc: Global, terminals: &mut VecDeque<Terminal>, op: Op) -> Result<Part, Stop>
+    ensures { Gives part terminals.new.items result (gate_at DEEPEST op terminals.old.items) }
 {
+    skip_name(terminals);
+    expect(terminals, Mark::Open)?;
+    let driven = name(terminals)?;
     expect(terminals, Mark::Comma)?;
-    expression(alloc, terminals)
+    let gate = connections(alloc, terminals, op, driven)?;
+    expect(terminals, Mark::Close)?;
+    Ok(gate)
 }
 
-/// The expressions behind the first one, each behind a comma.
+// What stands behind the first name in the parentheses of a gate.
+fn connections(
+    alloc: Global,
+    terminals: &mut VecDeque<Terminal>,
+    op: Op,
+    driven: Name,
+) -> Result<Part, Stop>
+    ensures { Gives part terminals.new.items result (connections_at DEEPEST op driven terminals.old.items) }
+{
+    match op {
+        Op::Buf | Op::Not => few(alloc, terminals, op, driven),
+        Op::And | Op::Or | Op::Nand | Op::Nor | Op::Xor | Op::Xnor => {
+            many(alloc, terminals, op, driven)
+        }
+    }
+}
+
+// The arguments of an n-ary gate.
+#[tactic(auto, unfolding(crate::specs::ReadsModules::many_at))]
+fn many(
+    alloc: Global,
+    terminals: &mut VecDeque<Terminal>,
+    op: Op,
+    driven: Name,
+) -> Result<Part, Stop>
+    ensures { Gives part terminals.new.items result (many_at DEEPEST op driven terminals.old.items) }
+{
+    let first = expression(alloc, terminals)?;
+    let arguments = more_expressions(alloc, terminals, first)?;
+    Ok(Part::Gate(op, driven, arguments))
+}
+
+// The expressions behind the first one, each behind a comma.
 fn more_expressions(
     alloc: Global,
     terminals: &mut VecDeque<Terminal>,
@@ -73,23 +127,31 @@ fn more_expressions(
     Ok(expressions)
 }
 
-/// The arguments of an n-ary gate.
-#[tactic(auto, unfolding(crate::specs::ReadsModules::many_at))]
-fn many(
+// An expression behind a comma.
+fn next_expression(alloc: Global, terminals: &mut VecDeque<Terminal>) -> Result<Expr, Stop>
+    ensures { Gives (λ e. (tree e, tt)) terminals.new.items result (comma_step (expression DEEPEST) tt terminals.old.items) }
+{
+    expect(terminals, Mark::Comma)?;
+    expression(alloc, terminals)
+}
+
+// The terminals of a `buf` or a `not`.
+#[tactic(auto, unfolding(crate::specs::ReadsModules::few_at))]
+fn few(
     alloc: Global,
     terminals: &mut VecDeque<Terminal>,
     op: Op,
     driven: Name,
 ) -> Result<Part, Stop>
-    ensures { Gives part terminals.new.items result (many_at DEEPEST op driven terminals.old.items) }
+    ensures { Gives part terminals.new.items result (few_at DEEPEST op driven terminals.old.items) }
 {
-    let first = expression(alloc, terminals)?;
-    let arguments = more_expressions(alloc, terminals, first)?;
-    Ok(Part::Gate(op, driven, arguments))
+    let second = expression(alloc, terminals)?;
+    let (names, argument) = more_names(alloc, terminals, driven, second)?;
+    Ok(Part::Copies(op, names, argument))
 }
 
-/// The names and the last expression of a `buf` or a `not`, behind the first name and where the
-/// expression behind it is read. An expression that is a name, with a comma behind it, is one more name.
+// The names and the last expression of a `buf` or a `not`, behind the first name and where the
+// expression behind it is read. An expression that is a name, with a comma behind it, is one more name.
 fn more_names(
     alloc: Global,
     terminals: &mut VecDeque<Terminal>,
@@ -108,62 +170,4 @@ fn more_names(
         last = next_expression(alloc, terminals)?;
     }
     Ok((names, last))
-}
-
-/// The terminals of a `buf` or a `not`.
-#[tactic(auto, unfolding(crate::specs::ReadsModules::few_at))]
-fn few(
-    alloc: Global,
-    terminals: &mut VecDeque<Terminal>,
-    op: Op,
-    driven: Name,
-) -> Result<Part, Stop>
-    ensures { Gives part terminals.new.items result (few_at DEEPEST op driven terminals.old.items) }
-{
-    let second = expression(alloc, terminals)?;
-    let (names, argument) = more_names(alloc, terminals, driven, second)?;
-    Ok(Part::Copies(op, names, argument))
-}
-
-/// What stands behind the first name in the parentheses of a gate.
-fn connections(
-    alloc: Global,
-    terminals: &mut VecDeque<Terminal>,
-    op: Op,
-    driven: Name,
-) -> Result<Part, Stop>
-    ensures { Gives part terminals.new.items result (connections_at DEEPEST op driven terminals.old.items) }
-{
-    match op {
-        Op::Buf | Op::Not => few(alloc, terminals, op, driven),
-        Op::And | Op::Or | Op::Nand | Op::Nor | Op::Xor | Op::Xnor => {
-            many(alloc, terminals, op, driven)
-        }
-    }
-}
-
-/// A gate, behind its keyword or a comma.
-#[tactic(auto, unfolding(crate::specs::ReadsModules::gate_at))]
-fn gate(alloc: Global, terminals: &mut VecDeque<Terminal>, op: Op) -> Result<Part, Stop>
-    ensures { Gives part terminals.new.items result (gate_at DEEPEST op terminals.old.items) }
-{
-    skip_name(terminals);
-    expect(terminals, Mark::Open)?;
-    let driven = name(terminals)?;
-    expect(terminals, Mark::Comma)?;
-    let gate = connections(alloc, terminals, op, driven)?;
-    expect(terminals, Mark::Close)?;
-    Ok(gate)
-}
-
-/// A part of an item of a kind.
-pub fn part(alloc: Global, terminals: &mut VecDeque<Terminal>, kind: Kind) -> Result<Part, Stop>
-    ensures { Gives part terminals.new.items result (part_at DEEPEST kind terminals.old.items) }
-{
-    match kind {
-        Kind::Declaration(direction) => Ok(Part::Declaration(direction, name(terminals)?)),
-        Kind::Wire => wire(alloc, terminals),
-        Kind::Assign => assign(alloc, terminals),
-        Kind::Gate(op) => gate(alloc, terminals, op),
-    }
 }

@@ -15,55 +15,6 @@ use crate::tree::Module;
 use bx_lex::{Token, Tokens, laws};
 use std::alloc::Global;
 
-/// The token before which so many tokens are left, if there are so many and one at all.
-fn token_at(tokens: &Tokens, left: usize) -> Option<Token>
-    ensures { IfSome result (λ t. (t.start < t.end) × (t.end ≤ tokens.now.end)) }
-{
-    let k = tokens.len().checked_sub(left as u64)?;
-    (k < tokens.len()).then(|| tokens.token(k))
-}
-
-/// The fault of a text whose reader stops before so many tokens.
-fn fault_at(text: &[u8], tokens: &Tokens, left: usize, wanted: Wanted) -> ReadFault
-    requires { tokens.now.end ≡ length text.now }
-    ensures { result ≢ ReadFault.NoMemory }
-{
-    let Some(token) = token_at(tokens, left) else {
-        return ReadFault::Syntax(tokens.end());
-    };
-    match construct(text, token, wanted) {
-        Some(construct) => ReadFault::NotTaken(token.start, construct),
-        None => ReadFault::Syntax(token.start),
-    }
-}
-
-/// The fault of a text whose reader stops so.
-fn fault_of(text: &[u8], tokens: &Tokens, stop: Stop) -> ReadFault
-    requires { tokens.now.end ≡ length text.now }
-    ensures { result ≡ ReadFault.NoMemory ↔ stop ≡ Stop.NoMemory }
-{
-    match stop {
-        Stop::NoMemory => ReadFault::NoMemory,
-        Stop::Bad(left, wanted) => fault_at(text, tokens, left, wanted),
-        Stop::Deep(left) => match token_at(tokens, left) {
-            Some(token) => ReadFault::TooDeep(token.start),
-            None => ReadFault::TooDeep(tokens.end()),
-        },
-    }
-}
-
-/// The tree of a text's tokens.
-fn tree_of(alloc: Global, text: &[u8], tokens: &Tokens) -> Result<Module, Stop>
-    requires whole { tokens.now.end ≡ length text.now }
-    requires few { length tokens.now.tokens < 2 ^ 32 }
-    ensures found { IfOk result (λ m. IsModule 256 m (terminals_of text.now tokens.now.tokens)) }
-    ensures only { (m : ModuleTree) → IsModule 256 m (terminals_of text.now tokens.now.tokens) →
-        MatchResult result (λ x. x ≡ m) (λ e. e ≡ Stop.NoMemory) }
-{
-    let mut terminals = terminals(alloc, text, tokens)?;
-    module(alloc, &mut terminals)
-}
-
 /// The tree of the module whose tokens these are.
 ///
 /// # Errors
@@ -83,4 +34,53 @@ pub fn read_module(alloc: Global, text: &[u8], tokens: &Tokens) -> Result<Module
         Ok(module) => Ok(module),
         Err(stop) => Err(fault_of(text, tokens, stop)),
     }
+}
+
+// The tree of a text's tokens.
+fn tree_of(alloc: Global, text: &[u8], tokens: &Tokens) -> Result<Module, Stop>
+    requires whole { tokens.now.end ≡ length text.now }
+    requires few { length tokens.now.tokens < 2 ^ 32 }
+    ensures found { IfOk result (λ m. IsModule 256 m (terminals_of text.now tokens.now.tokens)) }
+    ensures only { (m : ModuleTree) → IsModule 256 m (terminals_of text.now tokens.now.tokens) →
+        MatchResult result (λ x. x ≡ m) (λ e. e ≡ Stop.NoMemory) }
+{
+    let mut terminals = terminals(alloc, text, tokens)?;
+    module(alloc, &mut terminals)
+}
+
+// The fault of a text whose reader stops so.
+fn fault_of(text: &[u8], tokens: &Tokens, stop: Stop) -> ReadFault
+    requires { tokens.now.end ≡ length text.now }
+    ensures { result ≡ ReadFault.NoMemory ↔ stop ≡ Stop.NoMemory }
+{
+    match stop {
+        Stop::NoMemory => ReadFault::NoMemory,
+        Stop::Bad(left, wanted) => fault_at(text, tokens, left, wanted),
+        Stop::Deep(left) => match token_at(tokens, left) {
+            Some(token) => ReadFault::TooDeep(token.start),
+            None => ReadFault::TooDeep(tokens.end()),
+        },
+    }
+}
+
+// The fault of a text whose reader stops before so many tokens.
+fn fault_at(text: &[u8], tokens: &Tokens, left: usize, wanted: Wanted) -> ReadFault
+    requires { tokens.now.end ≡ length text.now }
+    ensures { result ≢ ReadFault.NoMemory }
+{
+    let Some(token) = token_at(tokens, left) else {
+        return ReadFault::Syntax(tokens.end());
+    };
+    match construct(text, token, wanted) {
+        Some(construct) => ReadFault::NotTaken(token.start, construct),
+        None => ReadFault::Syntax(token.start),
+    }
+}
+
+// The token before which so many tokens are left, if there are so many and one at all.
+fn token_at(tokens: &Tokens, left: usize) -> Option<Token>
+    ensures { IfSome result (λ t. (t.start < t.end) × (t.end ≤ tokens.now.end)) }
+{
+    let k = tokens.len().checked_sub(left as u64)?;
+    (k < tokens.len()).then(|| tokens.token(k))
 }

@@ -4,10 +4,10 @@ use bx_lex::read_tokens;
 use std::alloc::{AllocError, Global};
 use std::test::Fail;
 
-/// Declarations of an input `a` and an output `y`, to put an item behind: 35 bytes.
+// Declarations of an input `a` and an output `y`, to put an item behind: 35 bytes.
 const HEAD: &str = "module m(a, y); input a; output y; ";
 
-/// The fault of a text, if it has one.
+// The fault of a text, if it has one.
 fn fault(alloc: Global, text: &[u8]) -> Result<Option<ReadFault>, Fail> {
     if text.len() > 1_000_000 {
         return Err("a text of the tests is short".into());
@@ -23,7 +23,7 @@ fn fault(alloc: Global, text: &[u8]) -> Result<Option<ReadFault>, Fail> {
     }
 }
 
-/// A text in which something nests: what stands before it, opens, closes and stands behind it.
+// A text in which something nests: what stands before it, opens, closes and stands behind it.
 #[derive(Clone, Copy)]
 struct Nested {
     before: &'static str,

@@ -4,15 +4,15 @@
 use crate::terminal::Mark;
 use bx_logic::Op;
 
-/// What a reserved word that the grammar uses is to it.
+// What a reserved word that the grammar uses is to it.
 #[derive(Clone, Copy, Debug, PartialEq, Eq)]
-pub enum Word {
+pub(crate) enum Word {
     Mark(Mark),
     Gate(Op),
 }
 
-/// What the first words of the table are, in its order. The words behind them are refused.
-pub const USED: [Word; 14] = [
+// What the first words of the table are, in its order. The words behind them are refused.
+pub(crate) const USED: [Word; 14] = [
     Word::Mark(Mark::Module),
     Word::Mark(Mark::EndModule),
     Word::Mark(Mark::Input),
@@ -29,9 +29,9 @@ pub const USED: [Word; 14] = [
     Word::Gate(Op::Not),
 ];
 
-/// The words that the grammar uses, and then those that it refuses (IEEE 1364-2005, annex B, as far
-/// as the profile goes).
-pub const RESERVED: [&str; 65] = [
+// The words that the grammar uses, and then those that it refuses (IEEE 1364-2005, annex B, as far
+// as the profile goes).
+pub(crate) const RESERVED: [&str; 65] = [
     "module",
     "endmodule",
     "input",

@@ -6,25 +6,25 @@ ghost use Rattle.bx_syntax.specs.declared.stop.Stop.TheVariants.{NoMemory as Out
 
 use std::alloc::{AllocError, AllocFailed};
 
-/// What may stand where a reader stops, as far as the construct depends on it.
+// What may stand where a reader stops, as far as the construct depends on it.
 #[derive(Clone, Copy, Debug, PartialEq, Eq)]
-pub enum Wanted {
-    /// An item of a module.
+pub(crate) enum Wanted {
+    // An item of a module.
     Item,
-    /// A primary.
+    // A primary.
     Primary,
-    /// The end of the text.
+    // The end of the text.
     End,
-    /// Anything else.
+    // Anything else.
     Other,
 }
 
-/// Why a reader stops. A place is how many terminals were left there.
+// Why a reader stops. A place is how many terminals were left there.
 #[derive(Clone, Copy, Debug, PartialEq, Eq)]
-pub enum Stop {
-    /// The terminal there isn't one that may stand there.
+pub(crate) enum Stop {
+    // The terminal there isn't one that may stand there.
     Bad(usize, Wanted),
-    /// The `~` or `(` there nests too deep.
+    // The `~` or `(` there nests too deep.
     Deep(usize),
     NoMemory,
 }

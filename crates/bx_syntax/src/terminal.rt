@@ -36,6 +36,10 @@ pub enum Terminal {
     Name(Name),
     /// `1'`, the letter of a base, and `0` or `1`.
     Bit(bool),
-    /// A token that stands in no text of the grammar.
-    Other,
+    /// Any other number, which stands in no text of the grammar.
+    Number,
+    /// A word that is reserved and refused, which stands in none either.
+    Reserved,
+    /// A symbol that stands in none, by its first byte.
+    Symbol(u8),
 }

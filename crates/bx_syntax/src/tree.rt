@@ -29,11 +29,12 @@ pub enum Expr {
     Not(Box<Expr>),
     /// An expression in parentheses.
     Group(Box<Expr>),
-    /// Operands of one level, joined from left to right.
-    Joined(Box<Expr>, Vec<Operand>),
+    /// Operands of one level, joined from left to right: the first, the operator behind it, the second,
+    /// and any further ones.
+    Joined(Box<Expr>, Operator, Box<Expr>, Vec<Operand>),
 }
 
-/// An operand behind the first one of its level, with the operator before it.
+/// A further operand of a level, with the operator before it.
 #[cycle(tree)]
 #[derive(Debug, Drop)]
 pub struct Operand {
@@ -94,7 +95,7 @@ impl Model for Module {
 }
 
 impl Module {
-    /// The module of these parts. Takes no memory.
+    // The module of these parts. Takes no memory.
     pub(crate) fn new(name: Name, ports: Vec<Port>, items: Vec<Vec<Part>>) -> Self
         requires { IsTree (module_tree name ports.items items.items) }
         ensures { result ≡ module_tree name ports.items items.items }

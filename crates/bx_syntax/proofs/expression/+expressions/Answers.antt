@@ -3,7 +3,7 @@ use Rattle.std.proofs.lemmas.Result.{err_from_is_err_and}
 use Rattle.bx_syntax.specs.declared.terminal.Terminal.TheVariants.{Mark}
 use Rattle.bx_syntax.specs.Trees.{tree}
 use Rattle.bx_syntax.specs.ReadsExpressions.{primary_at}
-use Rattle.bx_syntax.proofs.ReadsExpressions.{primary_tilde, primary_open, primary_empty, primary_mark, primary_neither, primary_name, primary_bit, fails_too, gives_same, level_none, level_some, operands_fail, operands_go_on, operands_end, operands_shrink, shrinks, tail-push}
+use Rattle.bx_syntax.proofs.ReadsExpressions.{joined_one, joined_second_fails, joined_more_fails, joined_all, gives_tree, primary_tilde, primary_open, primary_empty, primary_mark, primary_neither, primary_name, primary_bit, fails_too, gives_same, level_none, level_some, operands_fail, operands_go_on, operands_end, operands_shrink, shrinks, tail-push}
 use Rattle.bx_syntax.proofs.expression.+expressions.Goals as goal
 
 pub level-returns-in-None : goal.level-returns-in-None
@@ -56,3 +56,23 @@ operands-loop-operator-preserved t c =
 
 pub operands-returns : goal.operands-returns
 operands-returns t c = operands_end _ _ _ _ _ (sym c.operator_at.ensures ∙ c.in_default.is) c.loop-operator.invariant
+
+pub chain-returns-in_default : goal.chain-returns-in_default
+chain-returns-in_default t c = joined_one _ _ _ _ _ c.in_ok-first.ensures (sym c.operator_at.ensures ∙ c.in_default.is)
+
+pub chain-returns-in_err-second : goal.chain-returns-in_err-second
+chain-returns-in_err-second t c =
+    let p = err_from_is_err_and c.from_residual-in_err-second.result c.from_residual-in_err-second.ensures.1 in
+    rw (p.1, p.2) (fails_too _ _ _ c.in_err-second.ensures
+    (joined_second_fails _ _ _ c.in-Some.operator _ _ _ c.in_ok-first.ensures (sym c.operator_at.ensures ∙ c.in-Some.is) c.take.ensures.rest))
+
+pub chain-returns-in_err-more : goal.chain-returns-in_err-more
+chain-returns-in_err-more t c =
+    let p = err_from_is_err_and c.from_residual-in_err-more.result c.from_residual-in_err-more.ensures.1 in
+    rw (p.1, p.2) (fails_too _ _ _ c.in_err-more.ensures
+    (joined_more_fails _ _ _ _ c.in-Some.operator _ _ _ _ (shrinks c.args.depth c.args.below) c.in_ok-first.ensures (sym c.operator_at.ensures ∙ c.in-Some.is) c.take.ensures.rest c.in_ok-second.ensures))
+
+pub chain-returns : goal.chain-returns
+chain-returns t c =
+    gives_tree c.joined.result _ _ _ c.joined.ensures.found c.joined.ensures.failed
+    (joined_all _ _ _ _ c.in-Some.operator _ _ _ _ _ _ (shrinks c.args.depth c.args.below) c.in_ok-first.ensures (sym c.operator_at.ensures ∙ c.in-Some.is) c.take.ensures.rest c.in_ok-second.ensures c.in_ok-more.ensures)

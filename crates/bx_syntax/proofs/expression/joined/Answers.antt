@@ -1,7 +1,6 @@
-use Rattle.std.proofs.Common.{sym, ◌∙◌}
-use Rattle.bx_syntax.proofs.ReadsExpressions.{joined_tree, some_operands}
+use Rattle.bx_syntax.proofs.ReadsExpressions.{joined_tree}
 use Rattle.bx_syntax.proofs.expression.joined.Goals as goal
 
 pub returns-clause-found : goal.returns-clause-found
 returns-clause-found c =
-    joined_tree _ c.args.first c.args.rest (some_operands c.args.rest (sym c.is_empty.ensures ∙ c.if-is_empty.false)) c.in_ok-new.ensures.ok
+    joined_tree c.args.first c.args.second _ _ c.args.operator c.args.more c.in_ok-first.ensures.ok c.in_ok-second.ensures.ok

@@ -3,15 +3,11 @@ use Rattle.std.proofs.Common.{◌≡◌, List, [], ◌∷◌, ◌++◌, map, app
 use Rattle.std.specs.List.{flat_map}
 use Rattle.std.proofs.lemmas.List.{map-append}
 use Rattle.bx_syntax.specs.declared.tree.Operand.{Operand}
-use Rattle.bx_syntax.specs.Trees.{Tree, Tail, done, link, tree, tail, levelled}
+use Rattle.bx_syntax.specs.declared.tree.Operator.{Operator}
+use Rattle.bx_syntax.specs.Trees.{Tree, joined, Tail, done, link, tree, tail}
 use Rattle.bx_verilog.specs.declared.role.Role.TheVariants.{Read}
 use Rattle.bx_verilog.specs.Formulas.{Text, Formula, pair, formula, grouped, names_of}
 use Rattle.bx_verilog.specs.Mentions.{Mention, reads_mentions}
-
--- operands of a level are grouped to the left, one alone too
-pub formula-levelled : (t : Tree) (ts : Tail) → formula (levelled t ts) ≡ grouped (formula t) ts
-formula-levelled t done = refl
-formula-levelled t (link o u ts) = refl
 
 -- the names of further operands
 abbrev pub tail_names : Tail → List Text
@@ -29,11 +25,12 @@ tail_reads (o ∷ os) =
     map-append (λ (name : Text). (name, Read)) (names_of (formula (tree o.expr))) (tail_names (tail os))
     ∙ ap (λ (xs : List Mention). reads_mentions (formula (tree o.expr)) ++ xs) (tail_reads os)
 
--- what operands of a level read: the first, and each further one
-pub reads-levelled : (t : Tree) (ts : Tail) (os : List Operand) → ts ≡ tail os →
-    reads_mentions (formula (levelled t ts)) ≡ reads_mentions (formula t) ++ flat_map (λ o. reads_mentions (formula (tree o.expr))) os
-reads-levelled t ts os same =
-    ap reads_mentions (formula-levelled t ts)
-    ∙ ap (map (λ (name : Text). (name, Read))) (names_of-grouped (formula t) ts)
-    ∙ map-append (λ (name : Text). (name, Read)) (names_of (formula t)) (tail_names ts)
-    ∙ ap (λ (xs : List Mention). reads_mentions (formula t) ++ xs) (ap (λ us. map (λ (name : Text). (name, Read)) (tail_names us)) same ∙ tail_reads os)
+-- what operands of a level read: the first, the second, and each further one
+pub reads-joined : (t u : Tree) (o : Operator) (ts : Tail) (os : List Operand) → ts ≡ tail os →
+    reads_mentions (formula (joined t o u ts)) ≡ reads_mentions (formula t) ++ (reads_mentions (formula u) ++ flat_map (λ o. reads_mentions (formula (tree o.expr))) os)
+reads-joined t u o ts os same =
+    let read : Text → Mention = λ name. (name, Read) in
+    ap (map read) (names_of-grouped (pair o (formula t) (formula u)) ts ∙ append_assoc (names_of (formula t)) (names_of (formula u)) (tail_names ts))
+    ∙ map-append read (names_of (formula t)) (names_of (formula u) ++ tail_names ts)
+    ∙ ap (λ (xs : List Mention). reads_mentions (formula t) ++ xs) (map-append read (names_of (formula u)) (tail_names ts)
+    ∙ ap (λ (xs : List Mention). reads_mentions (formula u) ++ xs) (ap (λ us. map read (tail_names us)) same ∙ tail_reads os))

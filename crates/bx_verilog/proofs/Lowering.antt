@@ -9,7 +9,7 @@ use Rattle.bx_logic.specs.declared.driver.Driver.TheVariants.{Constant, Gate}
 use Rattle.bx_syntax.specs.declared.tree.Operator.{Operator}
 use Rattle.bx_syntax.specs.declared.tree.Operand.{Operand}
 use Rattle.bx_syntax.specs.declared.tree.Expr.{Expr, Not, Joined}
-use Rattle.bx_syntax.specs.Trees.{Tree, net, bit, inverse, group, joined, Tail, done, link, levelled, tree, tail}
+use Rattle.bx_syntax.specs.Trees.{Tree, net, bit, inverse, group, joined, Tail, done, link, tree, tail}
 use Rattle.bx_syntax.proofs.ReadsExpressions.{row_tail-vec}
 use Rattle.bx_verilog.specs.Formulas.{Text, Formula, named, constant, negation, pair, formula, grouped, operation}
 use Rattle.bx_verilog.specs.Elaboration.{own, all_own, net_number, own_drivers, net_numbers, all_own_drivers}
@@ -49,14 +49,21 @@ lowered_pair names before middle next after o f g place other last h k d n =
     let e : length names + length middle ≡ length names + length before + own f = omega arith in
     lowered_pair_at names before middle next after o f g place other last (length names + length middle) e h k.drivers k.number d (omega arith)
 
--- Operands of a level, one at a time.
-levelled-formula : (t : Tree) (ts : Tail) → formula (levelled t ts) ≡ grouped (formula t) ts
-levelled-formula t done = refl
-levelled-formula t (link o u ts) = refl
+-- The same, where the code's gate is the operator's.
+pub lowered_two : (names : List Text) (before middle next after : List Driver) (o : Operator) (op : Op) (f g : Formula) (place other last : ℕ) →
+    IsLowered names before middle f place → IsLowered names middle next g other → op ≡ operation o → after ≡ next ++ Gate op (place ∷ other ∷ []) ∷ [] → last ≡ length names + length next →
+    IsLowered names before after (pair o f g) last
+lowered_two names before middle next after o op f g place other last h k same d n =
+    lowered_pair names before middle next after o f g place other last h k (d ∙ ap (λ (p : Op). next ++ Gate p (place ∷ other ∷ []) ∷ []) same) n
 
-pub joined-formula : (e first : Expr) (v : Vec Operand Global) (b : Box Expr Global) → e ≡ Joined b v → first ≡ b.value → formula (tree e) ≡ grouped (formula (tree first)) (tail v.items)
-joined-formula e first v b is same =
-    ap (λ x. formula (tree x)) is ∙ (ap (λ ts. formula (levelled (tree b.value) ts)) (row_tail-vec v) ∙ (levelled-formula (tree b.value) (tail v.items) ∙ ap (λ x. grouped (formula (tree x)) (tail v.items)) (sym same)))
+-- Operands of a level, one at a time.
+pub joined-formula : (e first second : Expr) (o : Operator) (v : Vec Operand Global) (b c : Box Expr Global) → e ≡ Joined b o c v → first ≡ b.value → second ≡ c.value →
+    formula (tree e) ≡ grouped (pair o (formula (tree first)) (formula (tree second))) (tail v.items)
+joined-formula e first second o v b c is same other =
+    ap (λ x. formula (tree x)) is
+    ∙ ap (grouped (pair o (formula (tree b.value)) (formula (tree c.value)))) (row_tail-vec v)
+    ∙ ap (λ x. grouped (pair o (formula (tree x)) (formula (tree c.value))) (tail v.items)) (sym same)
+    ∙ ap (λ x. grouped (pair o (formula (tree first)) (formula (tree x))) (tail v.items)) (sym other)
 
 -- How often a reader of a tree calls itself.
 abbrev mutual
@@ -71,13 +78,13 @@ abbrev mutual
   nodes_behind done = 0
   nodes_behind (link o t ts) = nodes t + 1 + nodes_behind ts
 
-levelled-nodes : (t : Tree) (ts : Tail) → nodes (levelled t ts) ≡ nodes t + nodes_behind ts + 1
-levelled-nodes t done = omega arith
-levelled-nodes t (link o u ts) = refl
-
-pub joined-nodes : (e first : Expr) (v : Vec Operand Global) (b : Box Expr Global) → e ≡ Joined b v → first ≡ b.value → nodes (tree e) ≡ nodes (tree first) + nodes_behind (tail v.items) + 1
-joined-nodes e first v b is same =
-    ap (λ x. nodes (tree x)) is ∙ (ap (λ ts. nodes (levelled (tree b.value) ts)) (row_tail-vec v) ∙ (levelled-nodes (tree b.value) (tail v.items) ∙ ap (λ x. nodes (tree x) + nodes_behind (tail v.items) + 1) (sym same)))
+pub joined-nodes : (e first second : Expr) (o : Operator) (v : Vec Operand Global) (b c : Box Expr Global) → e ≡ Joined b o c v → first ≡ b.value → second ≡ c.value →
+    nodes (tree e) ≡ nodes (tree first) + (nodes (tree second) + 1 + nodes_behind (tail v.items)) + 1
+joined-nodes e first second o v b c is same other =
+    ap (λ x. nodes (tree x)) is
+    ∙ ap (λ ts. nodes (tree b.value) + (nodes (tree c.value) + 1 + nodes_behind ts) + 1) (row_tail-vec v)
+    ∙ ap (λ x. nodes (tree x) + (nodes (tree c.value) + 1 + nodes_behind (tail v.items)) + 1) (sym same)
+    ∙ ap (λ x. nodes (tree first) + (nodes (tree x) + 1 + nodes_behind (tail v.items)) + 1) (sym other)
 
 pub operand-nodes : (os : List Operand) (k : ℕ) (o : Operand) → k < length os → o ≡ get_or os k o → nodes (tree o.expr) < nodes_behind (tail os)
 operand-nodes [] k o h is = absurd (omega arith)

@@ -49,8 +49,11 @@ pub(crate) fn net_of_expression(
             push_gate(alloc, names, inner, Op::Not, &[net])
         }
         Expr::Group(grouped) => net_of_expression(alloc, names, inner, grouped),
-        Expr::Joined(first, operands) => {
-            let mut net = net_of_expression(alloc, names, inner, first)?;
+        Expr::Joined(first, operator, second, operands) => {
+            let left = net_of_expression(alloc, names, inner, first)?;
+            let right = net_of_expression(alloc, names, inner, second)?;
+            let gate = operation(*operator);
+            let mut net = push_gate(alloc, names, inner, gate, &[left, right])?;
             for operand in operands {
                 let other = net_of_expression(alloc, names, inner, &operand.expr)?;
                 net = push_gate(

@@ -131,8 +131,9 @@ fn push_reads<'a>(expr: &'a Expr, found: &mut Vec<Mention<'a>>) -> Result<(), No
         Expr::Net(name) => push_name(name, Role::Read, found),
         Expr::Bit(_) => Ok(()),
         Expr::Not(inner) | Expr::Group(inner) => push_reads(inner, found),
-        Expr::Joined(first, operands) => {
+        Expr::Joined(first, _, second, operands) => {
             push_reads(first, found)?;
+            push_reads(second, found)?;
             push_operands(operands, found)
         }
     }

@@ -1,9 +1,9 @@
-use Rattle.std.proofs.Common.{sym, ◌∙◌, ap, arith}
+use Rattle.std.proofs.Common.{refl, sym, ◌∙◌, ap, arith}
 use Rattle.std.proofs.lemmas.List.{take_all}
 use Rattle.bx_syntax.specs.Trees.{tree, tail}
-use Rattle.bx_verilog.specs.Formulas.{formula, grouped}
+use Rattle.bx_verilog.specs.Formulas.{pair, formula, grouped}
 use Rattle.bx_verilog.specs.Elaboration.{own}
-use Rattle.bx_verilog.proofs.Lowering.{nodes_behind, lowered_length, joined-formula, joined-nodes, operand-nodes, operand_fits, own-grows, lowered_operand, negation_result}
+use Rattle.bx_verilog.proofs.Lowering.{nodes_behind, lowered_length, joined-formula, joined-nodes, operand-nodes, operand_fits, own-grows, lowered_two, lowered_operand, negation_result}
 use Rattle.bx_verilog.proofs.expression.+net_of_expression.Goals as goal
 
 pub push_gate-requires-clause-fits : goal.push_gate-requires-clause-fits
@@ -15,19 +15,41 @@ push_gate-requires-clause-fits t c =
 
 pub net_of_expression-requires-in-Joined : goal.net_of_expression-requires-in-Joined
 net_of_expression-requires-in-Joined t c =
-    let e = joined-formula c.args.expr.now _ c.in-Joined.operands c.in-Joined.first c.in-Joined.is c.deref-in-Joined.ensures in
-    let n = joined-nodes c.args.expr.now _ c.in-Joined.operands c.in-Joined.first c.in-Joined.is c.deref-in-Joined.ensures in
-    let g = own-grows (formula (tree c.deref-in-Joined.result.now)) (tail c.in-Joined.operands.items) in
+    let second = c.in-Joined.second.value in
+    let e = joined-formula c.args.expr.now _ second c.in-Joined.operator c.in-Joined.operands c.in-Joined.first c.in-Joined.second c.in-Joined.is c.deref-in-Joined.ensures refl in
+    let n = joined-nodes c.args.expr.now _ second c.in-Joined.operator c.in-Joined.operands c.in-Joined.first c.in-Joined.second c.in-Joined.is c.deref-in-Joined.ensures refl in
+    let g = own-grows (pair c.in-Joined.operator (formula (tree c.deref-in-Joined.result.now)) (formula (tree second))) (tail c.in-Joined.operands.items) in
     (omega arith, omega (arith, ap own e))
+
+pub net_of_expression-requires-in-Joined-2 : goal.net_of_expression-requires-in-Joined-2
+net_of_expression-requires-in-Joined-2 t c =
+    let l = lowered_length _ _ _ _ _ c.in_ok-left-in-Joined.ensures in
+    let e = joined-formula c.args.expr.now _ _ c.in-Joined.operator c.in-Joined.operands c.in-Joined.first c.in-Joined.second c.in-Joined.is c.deref-in-Joined.ensures c.deref-in-Joined-2.ensures in
+    let n = joined-nodes c.args.expr.now _ _ c.in-Joined.operator c.in-Joined.operands c.in-Joined.first c.in-Joined.second c.in-Joined.is c.deref-in-Joined.ensures c.deref-in-Joined-2.ensures in
+    let g = own-grows (pair c.in-Joined.operator (formula (tree c.deref-in-Joined.result.now)) (formula (tree c.deref-in-Joined-2.result.now))) (tail c.in-Joined.operands.items) in
+    (omega arith, omega (arith, ap own e))
+
+pub push_gate-requires-in-Joined-clause-fits : goal.push_gate-requires-in-Joined-clause-fits
+push_gate-requires-in-Joined-clause-fits t c =
+    let l = lowered_length _ _ _ _ _ c.in_ok-left-in-Joined.ensures in
+    let r = lowered_length _ _ _ _ _ c.in_ok-right-in-Joined.ensures in
+    let e = joined-formula c.args.expr.now _ _ c.in-Joined.operator c.in-Joined.operands c.in-Joined.first c.in-Joined.second c.in-Joined.is c.deref-in-Joined.ensures c.deref-in-Joined-2.ensures in
+    let g = own-grows (pair c.in-Joined.operator (formula (tree c.deref-in-Joined.result.now)) (formula (tree c.deref-in-Joined-2.result.now))) (tail c.in-Joined.operands.items) in
+    omega (arith, ap own e)
 
 pub loop-operand-init : goal.loop-operand-init
 loop-operand-init t c =
-    let e = joined-formula c.args.expr.now _ c.in-Joined.operands c.in-Joined.first c.in-Joined.is c.deref-in-Joined.ensures in
-    (formula (tree c.deref-in-Joined.result.now), e ∙ ap (λ x. grouped (formula (tree c.deref-in-Joined.result.now)) (tail x)) (sym c.deref-operand-items.ensures.value), c.in_ok-net-in-Joined.ensures)
+    let both = pair c.in-Joined.operator (formula (tree c.deref-in-Joined.result.now)) (formula (tree c.deref-in-Joined-2.result.now)) in
+    let e = joined-formula c.args.expr.now _ _ c.in-Joined.operator c.in-Joined.operands c.in-Joined.first c.in-Joined.second c.in-Joined.is c.deref-in-Joined.ensures c.deref-in-Joined-2.ensures in
+    let pushed = c.in_ok-net-in-Joined.ensures in (
+      both,
+      e ∙ ap (λ x. grouped both (tail x)) (sym c.deref-operand-items.ensures.value),
+      lowered_two _ _ _ _ _ c.in-Joined.operator _ _ _ _ _ _ c.in_ok-left-in-Joined.ensures c.in_ok-right-in-Joined.ensures c.operation-gate.ensures pushed.drivers pushed.number,
+    )
 
 pub net_of_expression-requires-in-loop-operand : goal.net_of_expression-requires-in-loop-operand
 net_of_expression-requires-in-loop-operand t c =
-    let n = joined-nodes c.args.expr.now _ c.in-Joined.operands c.in-Joined.first c.in-Joined.is c.deref-in-Joined.ensures in
+    let n = joined-nodes c.args.expr.now _ _ c.in-Joined.operator c.in-Joined.operands c.in-Joined.first c.in-Joined.second c.in-Joined.is c.deref-in-Joined.ensures c.deref-in-Joined-2.ensures in
     let s = ap (λ x. nodes_behind (tail x)) c.deref-operand-items.ensures.value in
     let o = operand-nodes _ _ _ c.loop-operand-test.true c.operand-item.is in
     let f = operand_fits _ _ _ _ _ _ _ _ c.loop-operand-test.true c.operand-item.is c.loop-operand.invariant.2 in

@@ -6,21 +6,20 @@ use Rattle.std.specs.List.{AllByRecursion}
 use Rattle.std.proofs.lemmas.List.Elements.{recursion_from_All}
 use Rattle.bx_lex.specs.declared.token.Token.{Token}
 use Rattle.bx_lex.specs.declared.token.TokenKind.{TokenKind}
-use Rattle.bx_lex.specs.declared.token.TokenKind.TheVariants.{Word, Escaped, Number, Symbol}
+use Rattle.bx_lex.specs.declared.token.TokenKind.TheVariants.{Word, Escaped, Number as NumberToken, Symbol as SymbolToken}
 use Rattle.bx_lex.specs.Bytes.{is_word_byte, is_shown, is_base}
 use Rattle.bx_lex.specs.Kinds.{IsLongestRun, IsTokenOf}
 use Rattle.bx_lex.proofs.ByKind.{tokens_of_kind}
 use Rattle.bx_syntax.specs.declared.terminal.Terminal.{Terminal}
-use Rattle.bx_syntax.specs.declared.terminal.Terminal.TheVariants.{Mark, Name, Bit, Other}
+use Rattle.bx_syntax.specs.declared.terminal.Terminal.TheVariants.{Mark, Name, Bit, Number, Symbol}
 use Rattle.bx_syntax.specs.declared.terminal.Mark.{Mark as Sign}
-use Rattle.bx_syntax.specs.declared.terminal.Mark.TheVariants.{Module as ModuleWord, Open, Comma, Wire as WireWord}
-use Rattle.bx_syntax.specs.declared.reserved.Word.{Word as Reserved}
-use Rattle.bx_syntax.specs.declared.reserved.Word.TheVariants.{Mark as MarkWord, Gate as GateWord}
+use Rattle.bx_syntax.specs.declared.terminal.Mark.TheVariants.{Module as ModuleWord, Open, Comma, Wire as WireWord, TildeCaret}
 use Rattle.bx_syntax.specs.declared.tree.Direction.{Direction}
 use Rattle.bx_syntax.specs.declared.tree.Port.{Port}
-use Rattle.bx_syntax.specs.Terminals.{mark_or_other, one_symbol, symbol_terminal, number_terminal, word_of, reserved_or_name, word_terminal, terminal_of_kind, terminal_of, terminals_of}
+use Rattle.bx_syntax.specs.Terminals.{mark_or_symbol, one_symbol, is_xnor, symbol_terminal, number_terminal, terminal_of_kind, terminal_of, terminals_of}
 use Rattle.bx_syntax.specs.Grammar.{Is, IsOptional, IsName, IsDirection, word, ArePortsBehind, ArePorts, IsHeader}
 use Rattle.bx_syntax.specs.Parts.{ModuleTree}
+use Rattle.bx_syntax.proofs.Words.{name_is_word}
 use Rattle.bx_verilog.specs.Formulas.{Text}
 use Rattle.bx_verilog.specs.Mentions.{is_input, is_output, ports_as, inputs, outputs}
 use Rattle.bx_verilog.specs.declared.role.Role.{Role}
@@ -56,19 +55,7 @@ escaped_plain (byte ∷ text) (suc n) h run =
 
 -- what is a name to the grammar
 
-words_are_none : (found : Option Reserved) (name : Text) → word_of found ≡ Name name → ⊥
-words_are_none (Some (MarkWord s)) name e = cc
-words_are_none (Some (GateWord op)) name e = cc
-words_are_none None name e = cc
-
-word_is : (text name : Text) → word_terminal text ≡ Name name → text ≡ name
-unfolding word_terminal
-word_is text name e = by_place _ e where
-  by_place : (place : Option ℕ) → reserved_or_name text place ≡ Name name → text ≡ name
-  by_place None e = cc
-  by_place (Some place) e = absurd (words_are_none _ name e)
-
-bits_are_none : (digits low high : Bool) (name : Text) → (if digits then (if low then Bit false else (if high then Bit true else Other)) else Other) ≡ Name name → ⊥
+bits_are_none : (digits low high : Bool) (name : Text) → (if digits then (if low then Bit false else (if high then Bit true else Number)) else Number) ≡ Name name → ⊥
 bits_are_none false low high name e = cc
 bits_are_none true true high name e = cc
 bits_are_none true false true name e = cc
@@ -82,24 +69,28 @@ number_is_none (a ∷ b ∷ []) name e = cc
 number_is_none (a ∷ b ∷ c ∷ []) name e = cc
 number_is_none (a ∷ b ∷ c ∷ d ∷ f ∷ text) name e = cc
 
-mark_is_none : (found : Option Sign) (name : Text) → mark_or_other found ≡ Name name → ⊥
-mark_is_none (Some s) name e = cc
-mark_is_none None name e = cc
+mark_is_none : (b : ℕ) (found : Option Sign) (name : Text) → mark_or_symbol b found ≡ Name name → ⊥
+mark_is_none b (Some s) name e = cc
+mark_is_none b None name e = cc
+
+xnor_is_none : (xnor : Bool) (a : ℕ) (name : Text) → (if xnor then Mark TildeCaret else Symbol a) ≡ Name name → ⊥
+xnor_is_none true a name e = cc
+xnor_is_none false a name e = cc
 
 symbol_is_none : (text name : Text) → symbol_terminal text ≡ Name name → ⊥
-symbol_is_none (b ∷ []) name e = mark_is_none (one_symbol b) name e
+symbol_is_none (b ∷ []) name e = mark_is_none b (one_symbol b) name e
 symbol_is_none [] name e = cc
-symbol_is_none (b ∷ c ∷ []) name e = cc
+symbol_is_none (b ∷ c ∷ []) name e = xnor_is_none (is_xnor b c) b name e
 symbol_is_none (b ∷ c ∷ d ∷ text) name e = cc
 
 kind_plain : (kind : TokenKind) (text : Text) (n : ℕ) → IsTokenOf kind text n → (name : Text) → terminal_of_kind kind (take n text) ≡ Name name → IsPlain name
-kind_plain Word text n is name e = subst IsPlain (word_is (take n text) name e) (word_plain text n is.1)
+kind_plain Word text n is name e = subst IsPlain (name_is_word (take n text) name e) (word_plain text n is.1)
 kind_plain Escaped text n is name e =
     let given : Name (drop 1 (take n text)) ≡ Name name = e in
     let same : drop 1 (take n text) ≡ name = cc in
     subst IsPlain same (escaped_plain text n is.1 is.2)
-kind_plain Number text n is name e = absurd (number_is_none (take n text) name e)
-kind_plain Symbol text n is name e = absurd (symbol_is_none (take n text) name e)
+kind_plain NumberToken text n is name e = absurd (number_is_none (take n text) name e)
+kind_plain SymbolToken text n is name e = absurd (symbol_is_none (take n text) name e)
 
 -- if it is a name, it is a plain one
 abbrev IsPlainTerminal : Terminal → Type 0

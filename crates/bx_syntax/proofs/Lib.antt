@@ -5,3 +5,9 @@ pub mod ReadsModules
 pub mod Mapped
 pub mod ModuleSteps
 pub mod Sizes
+pub mod Stacks
+pub mod Leading
+pub mod Coming
+pub mod Probes
+pub mod Stopping
+pub mod Faults

@@ -1,5 +1,5 @@
 -- What reads an expression reads each that the grammar has, and nothing else.
-use Rattle.std.proofs.Common.{◌≡◌, get_or, Vec, Global, Result, Ok, Err, IfOk, IfErr, ℕ, zero, suc, ◌<◌, ◌≤◌, List, [], ◌∷◌, ◌++◌, drop, length, length-append, length-drop, append_assoc, Option, Some, None, refl, sym, ap, subst, ◌∙◌, ◌⊎◌, inl, inr, arith, eq-eqb}
+use Rattle.std.proofs.Common.{◌≡◌, get_or, Vec, Global, Result, IfOk, IfErr, ℕ, zero, suc, ◌<◌, ◌≤◌, List, [], ◌∷◌, ◌++◌, drop, length, length-append, length-drop, append_assoc, Option, Some, None, Ok, Err, refl, sym, ap, subst, ◌∙◌, ◌⊎◌, inl, inr, arith, eq-eqb}
 use Rattle.std.proofs.lemmas.Grind.{common_steps}
 use Rattle.std.proofs.lemmas.Bool.Decides.{eqb_tells}
 use Rattle.std.proofs.Common.{⊎_elim}
@@ -14,10 +14,12 @@ use Rattle.bx_syntax.specs.declared.tree.Expr.TheBlock.{hidden-the_row-Operand-0
 use Rattle.bx_syntax.specs.declared.tree.Operand.{Operand}
 use Rattle.bx_syntax.specs.Trees.{Tree, net, bit, inverse, group, joined, Tail, done, link, started, tree, tail, row_tail}
 use Rattle.bx_syntax.specs.Expressions.{rank, IsAt, AreAt, sign, spelling, tail_spelling, nesting, tail_nesting}
-use Rattle.bx_syntax.specs.ReadsExpressions.{Reader, ◌>>=◌, nothing, operator_of, of_rank, operator_at, linked, tail_within, tail_at, joined_at, level_at, number, behind, inverse_with, group_with, nested_with, primary_with, primary_at, expr_at, inverse_at, group_at}
+use Rattle.bx_syntax.specs.ReadsExpressions.{Reader, ◌>>=◌, stops, too_deep, operator_of, of_rank, operator_at, linked, tail_within, tail_at, joined_at, level_at, number, behind, inverse_with, group_with, nested_with, primary_with, primary_at, expr_at, inverse_at, group_at}
 use Rattle.bx_logic.specs.declared.op.Op.{Op}
 use Rattle.bx_syntax.specs.declared.stop.Stop.{Stop}
 use Rattle.bx_syntax.specs.declared.stop.Stop.TheVariants.{Bad, Deep, NoMemory}
+use Rattle.bx_syntax.specs.declared.stop.Wanted.{Wanted}
+use Rattle.bx_syntax.specs.declared.stop.Wanted.TheVariants.{Primary, Other}
 use Rattle.bx_syntax.specs.Gives.{Fails, Gives}
 
 -- no operator of a level below this one stands at the front
@@ -41,21 +43,21 @@ sign_front Xnor k ts = refl
 sign_front Or k ts = refl
 
 -- where no operator of the level follows, there are no further operands
-tail_none : (operand : Reader Tree) (k n : ℕ) (ts : List Terminal) → operator_at k ts ≡ None → tail_within operand k n ts ≡ Some (done, ts)
+tail_none : (operand : Reader Tree) (k n : ℕ) (ts : List Terminal) → operator_at k ts ≡ None → tail_within operand k n ts ≡ Ok (done, ts)
 unfolding tail_within
 tail_none operand k zero ts e = refl
 tail_none operand k (suc n) ts e = rw e refl
 
-lift_one : (p : Reader Tree) (k : ℕ) (ts : List Terminal) (t : Tree) (rest : List Terminal) → level_at p k ts ≡ Some (t, rest) → operator_at k rest ≡ None → level_at p (suc k) ts ≡ Some (t, rest)
+lift_one : (p : Reader Tree) (k : ℕ) (ts : List Terminal) (t : Tree) (rest : List Terminal) → level_at p k ts ≡ Ok (t, rest) → operator_at k rest ≡ None → level_at p (suc k) ts ≡ Ok (t, rest)
 unfolding level_at joined_at tail_at
 lift_one p k ts t rest e h = rw e (rw (tail_none (level_at p k) k (length rest) rest h) refl)
 
 -- what is read at a level is read at each level above
-lift : (p : Reader Tree) (j k : ℕ) (ts : List Terminal) (t : Tree) (rest : List Terminal) → j ≤ k → level_at p j ts ≡ Some (t, rest) → Ends k rest → level_at p k ts ≡ Some (t, rest)
-lift p j zero ts t rest le e h = subst (λ i. level_at p i ts ≡ Some (t, rest)) (omega arith) e
+lift : (p : Reader Tree) (j k : ℕ) (ts : List Terminal) (t : Tree) (rest : List Terminal) → j ≤ k → level_at p j ts ≡ Ok (t, rest) → Ends k rest → level_at p k ts ≡ Ok (t, rest)
+lift p j zero ts t rest le e h = subst (λ i. level_at p i ts ≡ Ok (t, rest)) (omega arith) e
 lift p j (suc k) ts t rest le e h =
     ⊎_elim
-    (λ same. subst (λ i. level_at p i ts ≡ Some (t, rest)) same.1 e)
+    (λ same. subst (λ i. level_at p i ts ≡ Ok (t, rest)) same.1 e)
     (λ below. lift_one p k ts t rest (lift p j k ts t rest (omega (arith, below.1)) e (ends_below k (suc k) rest (omega arith) h)) (h.none k (omega arith)))
     (eqb_tells j (suc k))
 
@@ -69,35 +71,35 @@ ends_tail (link o t ts) k rest h e = ends_sign o k ((spelling t ++ tail_spelling
 
 -- one more operand, where it and those behind it are read
 tail_step : (operand : Reader Tree) (k n : ℕ) (o : Operator) (t : Tree) (ts : Tail) (text middle rest : List Terminal) →
-    rank o ≡ k → operand text ≡ Some (t, middle) → tail_within operand k n middle ≡ Some (ts, rest) →
-    tail_within operand k (suc n) (sign o ∷ text) ≡ Some (link o t ts, rest)
+    rank o ≡ k → operand text ≡ Ok (t, middle) → tail_within operand k n middle ≡ Ok (ts, rest) →
+    tail_within operand k (suc n) (sign o ∷ text) ≡ Ok (link o t ts, rest)
 unfolding tail_within
 tail_step operand k n o t ts text middle rest r e f = rw (sign_front, of_rank-same o k r, e, f) refl
 
-pub primary_name : (d : ℕ) (n : List ℕ) (rest : List Terminal) → primary_at d (Name n ∷ rest) ≡ Some (net n, rest)
+pub primary_name : (d : ℕ) (n : List ℕ) (rest : List Terminal) → primary_at d (Name n ∷ rest) ≡ Ok (net n, rest)
 unfolding primary_at
 primary_name zero n rest = refl
 primary_name (suc d) n rest = refl
 
-pub primary_bit : (d : ℕ) (b : _) (rest : List Terminal) → primary_at d (Bit b ∷ rest) ≡ Some (bit b, rest)
+pub primary_bit : (d : ℕ) (b : _) (rest : List Terminal) → primary_at d (Bit b ∷ rest) ≡ Ok (bit b, rest)
 unfolding primary_at
 primary_bit zero n rest = refl
 primary_bit (suc d) n rest = refl
 
-primary_inverse : (d : ℕ) (t : Tree) (ts rest : List Terminal) → primary_at d ts ≡ Some (t, rest) →
-    primary_at (suc d) (Mark Tilde ∷ ts) ≡ Some (inverse t, rest)
+primary_inverse : (d : ℕ) (t : Tree) (ts rest : List Terminal) → primary_at d ts ≡ Ok (t, rest) →
+    primary_at (suc d) (Mark Tilde ∷ ts) ≡ Ok (inverse t, rest)
 unfolding primary_at
 primary_inverse d t ts rest e = rw e refl
 
-primary_group : (d : ℕ) (t : Tree) (ts rest : List Terminal) → expr_at d ts ≡ Some (t, Mark Close ∷ rest) →
-    primary_at (suc d) (Mark Open ∷ ts) ≡ Some (group t, rest)
+primary_group : (d : ℕ) (t : Tree) (ts rest : List Terminal) → expr_at d ts ≡ Ok (t, Mark Close ∷ rest) →
+    primary_at (suc d) (Mark Open ∷ ts) ≡ Ok (group t, rest)
 unfolding primary_at
 primary_group d t ts rest e = rw e refl
 
 -- operands of a level, where the first one and those behind it are read
 joined_step : (p : Reader Tree) (k : ℕ) (t : Tree) (ts : Tail) (text middle rest : List Terminal) →
-    level_at p k text ≡ Some (t, middle) → tail_within (level_at p k) k (length middle) middle ≡ Some (ts, rest) →
-    level_at p (suc k) text ≡ Some (started t ts, rest)
+    level_at p k text ≡ Ok (t, middle) → tail_within (level_at p k) k (length middle) middle ≡ Ok (ts, rest) →
+    level_at p (suc k) text ≡ Ok (started t ts, rest)
 unfolding level_at joined_at tail_at
 joined_step p k t ts text middle rest e f = rw (e, f) refl
 
@@ -105,11 +107,11 @@ ends_close : (k : ℕ) (ts : List Terminal) → Ends k (Mark Close ∷ ts)
 ends_close k ts = record { none = λ j lt. refl }
 
 -- what a primary is read as is read at each level
-lift_primary : (d k : ℕ) (t : Tree) (ts rest : List Terminal) → primary_at d ts ≡ Some (t, rest) → Ends k rest → level_at (primary_at d) k ts ≡ Some (t, rest)
+lift_primary : (d k : ℕ) (t : Tree) (ts rest : List Terminal) → primary_at d ts ≡ Ok (t, rest) → Ends k rest → level_at (primary_at d) k ts ≡ Ok (t, rest)
 unfolding level_at
 lift_primary d k t ts rest e ends = lift (primary_at d) 0 k ts t rest (omega arith) e ends
 
-from_level : (d : ℕ) (t : Tree) (ts rest : List Terminal) → level_at (primary_at d) 0 ts ≡ Some (t, rest) → primary_at d ts ≡ Some (t, rest)
+from_level : (d : ℕ) (t : Tree) (ts rest : List Terminal) → level_at (primary_at d) 0 ts ≡ Ok (t, rest) → primary_at d ts ≡ Ok (t, rest)
 unfolding level_at
 from_level d t ts rest e = e
 
@@ -119,12 +121,12 @@ regroup a b c rest s = simp append_assoc
 mutual
   -- Each expression that the grammar has is read, if it nests no deeper.
   pub again : (t : Tree) (d k : ℕ) (rest : List Terminal) → IsAt k t → nesting t ≤ d → Ends k rest →
-      level_at (primary_at d) k (spelling t ++ rest) ≡ Some (t, rest)
+      level_at (primary_at d) k (spelling t ++ rest) ≡ Ok (t, rest)
   again (net n) d k rest at deep ends = lift_primary d k _ _ rest (primary_name d n rest) ends
   again (bit b) d k rest at deep ends = lift_primary d k _ _ rest (primary_bit d b rest) ends
   again (inverse t) zero k rest at deep ends = absurd (omega arith)
   again (inverse t) (suc d) k rest at deep ends =
-      let inner : primary_at d (spelling t ++ rest) ≡ Some (t, rest) =
+      let inner : primary_at d (spelling t ++ rest) ≡ Ok (t, rest) =
       from_level d t _ rest (again t d 0 rest at (omega arith) (ends_below 0 k rest (omega arith) ends)) in
       lift_primary (suc d) k _ _ rest (primary_inverse d t _ rest inner) ends
   again (group t) zero k rest at deep ends = absurd (omega arith)
@@ -142,7 +144,7 @@ mutual
       (lift (primary_at d) (suc (rank o)) k _ _ rest (omega arith) (joined_step (primary_at d) (rank o) t (link o u ts) _ (sign o ∷ text) rest first both) ends)
 
   pub again_tail : (ts : Tail) (d k n : ℕ) (rest : List Terminal) → AreAt k ts → tail_nesting ts ≤ d → Ends (suc k) rest →
-      length (tail_spelling ts ++ rest) ≤ n → tail_within (level_at (primary_at d) k) k n (tail_spelling ts ++ rest) ≡ Some (ts, rest)
+      length (tail_spelling ts ++ rest) ≤ n → tail_within (level_at (primary_at d) k) k n (tail_spelling ts ++ rest) ≡ Ok (ts, rest)
   again_tail done d k n rest at deep ends room = tail_none _ k n rest (ends.none k (omega arith))
   again_tail (link o t ts) d k zero rest at deep ends room = absurd (omega arith)
   again_tail (link o t ts) d k (suc n) rest at deep ends room =
@@ -162,13 +164,16 @@ pub record FoundTail (d k : ℕ) (ts : List Terminal) (t : Tail) (rest : List Te
   pub nested : tail_nesting t ≤ d
 
 abbrev pub Finds : ℕ → ℕ → Reader Tree → Type 0
-Finds d k p = (ts : List Terminal) (x : Tree × List Terminal) → p ts ≡ Some x → Found d k ts x.0 x.1
+Finds d k p = (ts : List Terminal) (x : Tree × List Terminal) → p ts ≡ Ok x → Found d k ts x.0 x.1
 
-pub bind_some : {A B : Type 0} {o : Option A} {f : A → Option B} {y : B} → (o >>= f) ≡ Some y → (x : A) × (o ≡ Some x) × (f x ≡ Some y)
-bind_some {o = Some x} e = (x, refl, e)
-bind_some {o = None} e = absurd (cc)
+pub bind_ok : {A B : Type 0} {o : Result A Stop} {f : A → Result B Stop} {y : B} → (o >>= f) ≡ Ok y → (x : A) × (o ≡ Ok x) × (f x ≡ Ok y)
+bind_ok {o = Ok x} e = (x, refl, e)
+bind_ok {o = Err w} e = absurd (cc)
 
-pub some_is : {A : Type 0} {x y : A} → ◌≡◌ {A = Option A} (Some x) (Some y) → x ≡ y
+pub ok_is : {A : Type 0} {x y : A} → ◌≡◌ {A = Result A Stop} (Ok x) (Ok y) → x ≡ y
+ok_is e = cc
+
+some_is : {A : Type 0} {x y : A} → ◌≡◌ {A = Option A} (Some x) (Some y) → x ≡ y
 some_is e = cc
 
 rank_is : (o o' : Operator) (k : ℕ) → of_rank k (Some o) ≡ Some o' → (o ≡ o') × (rank o ≡ k)
@@ -179,7 +184,7 @@ rank_is o o' k e =
     (eqb_tells (rank o) k)
 
 -- the operator that is found at the front stands there
-operator_is : (k : ℕ) (ts : List Terminal) (o : Operator) → operator_at k ts ≡ Some o → (ts ≡ sign o ∷ drop 1 ts) × (rank o ≡ k)
+pub operator_is : (k : ℕ) (ts : List Terminal) (o : Operator) → operator_at k ts ≡ Some o → (ts ≡ sign o ∷ drop 1 ts) × (rank o ≡ k)
 operator_is k (Mark s ∷ ts) o e = of_symbol s e
   where
     signed : (o' : Operator) → of_rank k (Some o') ≡ Some o → (sign o' ∷ ts ≡ sign o ∷ ts) × (rank o ≡ k)
@@ -193,32 +198,32 @@ operator_is k (Mark s ∷ ts) o e = of_symbol s e
     of_symbol _ e = absurd (cc)
 operator_is k _ o e = absurd (cc)
 
-no_tail : (d k : ℕ) (ts : List Terminal) (x : Tail × List Terminal) → ◌≡◌ {A = Option (Tail × List Terminal)} (Some (done, ts)) (Some x) → FoundTail d k ts x.0 x.1
+no_tail : (d k : ℕ) (ts : List Terminal) (x : Tail × List Terminal) → ◌≡◌ {A = Result (Tail × List Terminal) Stop} (Ok (done, ts)) (Ok x) → FoundTail d k ts x.0 x.1
 no_tail d k ts x e =
-    subst (λ (x : Tail × List Terminal). FoundTail d k ts x.0 x.1) (some_is e) (record { spelled = refl; level = tt; nested = omega arith })
+    subst (λ (x : Tail × List Terminal). FoundTail d k ts x.0 x.1) (ok_is e) (record { spelled = refl; level = tt; nested = omega arith })
 
 -- two lists, one behind the other at the front, are one list there
 both_spelled : {A : Type 0} (ts a middle b rest : List A) → ts ≡ a ++ middle → middle ≡ b ++ rest → ts ≡ (a ++ b) ++ rest
 both_spelled ts a middle b rest e f = e ∙ (ap (λ m. a ++ m) f ∙ sym (append_assoc a b rest))
 
 linked_finds : (p : Reader Tree) (more : Reader Tail) (d k : ℕ) → Finds d k p →
-    ((ts : List Terminal) (x : Tail × List Terminal) → more ts ≡ Some x → FoundTail d k ts x.0 x.1) →
-    (o : Option Operator) (ts : List Terminal) (x : Tail × List Terminal) → operator_at k ts ≡ o → linked p more o ts ≡ Some x → FoundTail d k ts x.0 x.1
+    ((ts : List Terminal) (x : Tail × List Terminal) → more ts ≡ Ok x → FoundTail d k ts x.0 x.1) →
+    (o : Option Operator) (ts : List Terminal) (x : Tail × List Terminal) → operator_at k ts ≡ o → linked p more o ts ≡ Ok x → FoundTail d k ts x.0 x.1
 linked_finds p more d k f g None ts x h e = no_tail d k ts x e
 linked_finds p more d k f g (Some o) ts x h e =
-    let one = bind_some e in
-    let two = bind_some one.2 in
+    let one = bind_ok e in
+    let two = bind_ok one.2 in
     let front = operator_is k ts o h in
     let here = f (drop 1 ts) one.0 one.1 in
     let behind = g one.0.1 two.0 two.1 in
-    subst (λ (x : Tail × List Terminal). FoundTail d k ts x.0 x.1) (some_is two.2)
+    subst (λ (x : Tail × List Terminal). FoundTail d k ts x.0 x.1) (ok_is two.2)
     (record {
       spelled = front.0 ∙ ap (λ l. sign o ∷ l) (both_spelled (drop 1 ts) (spelling one.0.0) one.0.1 (tail_spelling two.0.0) two.0.1 here.spelled behind.spelled);
       level = (front.1, here.level, behind.level);
       nested = omega (arith, here.nested, behind.nested);
     })
 
-tail_finds : (p : Reader Tree) (d k n : ℕ) → Finds d k p → (ts : List Terminal) (x : Tail × List Terminal) → tail_within p k n ts ≡ Some x → FoundTail d k ts x.0 x.1
+tail_finds : (p : Reader Tree) (d k n : ℕ) → Finds d k p → (ts : List Terminal) (x : Tail × List Terminal) → tail_within p k n ts ≡ Ok x → FoundTail d k ts x.0 x.1
 unfolding tail_within
 tail_finds p d k zero f ts x e = no_tail d k ts x e
 tail_finds p d k (suc n) f ts x e = linked_finds p (tail_within p k n) d k f (tail_finds p d k n f) (operator_at k ts) ts x refl e
@@ -245,11 +250,11 @@ nesting-started d t (link o u ts) h g = omega arith
 joined_finds : (p : Reader Tree) (d k : ℕ) → Finds d k p → Finds d (suc k) (joined_at p k)
 unfolding joined_at tail_at
 joined_finds p d k f ts x e =
-    let one = bind_some e in
-    let two = bind_some one.2 in
+    let one = bind_ok e in
+    let two = bind_ok one.2 in
     let here = f ts one.0 one.1 in
     let behind = tail_finds p d k (length one.0.1) f one.0.1 two.0 two.1 in
-    subst (λ (x : Tree × List Terminal). Found d (suc k) ts x.0 x.1) (some_is two.2)
+    subst (λ (x : Tree × List Terminal). Found d (suc k) ts x.0 x.1) (ok_is two.2)
     (record {
       spelled = rw (spelling-started one.0.0 two.0.0) (both_spelled ts (spelling one.0.0) one.0.1 (tail_spelling two.0.0) two.0.1 here.spelled behind.spelled);
       level = IsAt-started k one.0.0 two.0.0 here.level behind.level;
@@ -283,53 +288,53 @@ mark_of-number Caret = refl
 mark_of-number TildeCaret = refl
 mark_of-number Bar = refl
 
-same_mark : (s r : Sign) → number s ≡ number r → s ≡ r
+pub same_mark : (s r : Sign) → number s ≡ number r → s ≡ r
 same_mark s r e = sym (mark_of-number s) ∙ (ap mark_of e ∙ mark_of-number r)
 
-pub behind_mark : (s : Sign) (rest : List Terminal) → behind s (Mark s ∷ rest) ≡ Some rest
+pub behind_mark : (s : Sign) (rest : List Terminal) → behind s (Mark s ∷ rest) ≡ Ok rest
 behind_mark s rest = rw (eq-eqb (number s) (number s) refl) refl
 
-pub behind_is : (s : Sign) (ts rest : List Terminal) → behind s ts ≡ Some rest → ts ≡ Mark s ∷ rest
+pub behind_is : (s : Sign) (ts rest : List Terminal) → behind s ts ≡ Ok rest → ts ≡ Mark s ∷ rest
 behind_is s (Mark r ∷ ts) rest e =
     ⊎_elim
-    (λ yes. ap (λ l. Mark r ∷ l) (some_is (rw yes.0 at e)) ∙ ap (λ q. Mark q ∷ rest) (same_mark r s yes.1))
-    (λ no. let never : None ≡ Some rest = rw no.0 at e in absurd (cc))
+    (λ yes. ap (λ l. Mark r ∷ l) (ok_is (rw yes.0 at e)) ∙ ap (λ q. Mark q ∷ rest) (same_mark r s yes.1))
+    (λ no. let never : stops Other (Mark r ∷ ts) ≡ Ok rest = rw no.0 at e in absurd (cc))
     (eqb_tells (number r) (number s))
 behind_is s _ rest e = absurd (cc)
 
-inverse_finds : (p : Reader Tree) (d : ℕ) → Finds d 0 p → (ts : List Terminal) (x : Tree × List Terminal) → inverse_with p ts ≡ Some x → Found (suc d) 0 (Mark Tilde ∷ ts) x.0 x.1
+inverse_finds : (p : Reader Tree) (d : ℕ) → Finds d 0 p → (ts : List Terminal) (x : Tree × List Terminal) → inverse_with p ts ≡ Ok x → Found (suc d) 0 (Mark Tilde ∷ ts) x.0 x.1
 inverse_finds p d f ts x e =
-    let one = bind_some e in
+    let one = bind_ok e in
     let here = f ts one.0 one.1 in
-    subst (λ (x : Tree × List Terminal). Found (suc d) 0 (Mark Tilde ∷ ts) x.0 x.1) (some_is one.2)
+    subst (λ (x : Tree × List Terminal). Found (suc d) 0 (Mark Tilde ∷ ts) x.0 x.1) (ok_is one.2)
     (record { spelled = ap (λ l. Mark Tilde ∷ l) here.spelled; level = here.level; nested = omega (arith, here.nested) })
 
-group_finds : (p : Reader Tree) (d : ℕ) → Finds d 3 p → (ts : List Terminal) (x : Tree × List Terminal) → group_with p ts ≡ Some x → Found (suc d) 0 (Mark Open ∷ ts) x.0 x.1
+group_finds : (p : Reader Tree) (d : ℕ) → Finds d 3 p → (ts : List Terminal) (x : Tree × List Terminal) → group_with p ts ≡ Ok x → Found (suc d) 0 (Mark Open ∷ ts) x.0 x.1
 group_finds p d f ts x e =
-    let one = bind_some e in
-    let two = bind_some one.2 in
+    let one = bind_ok e in
+    let two = bind_ok one.2 in
     let here = f ts one.0 one.1 in
     let close = behind_is Close one.0.1 two.0 two.1 in
-    subst (λ (x : Tree × List Terminal). Found (suc d) 0 (Mark Open ∷ ts) x.0 x.1) (some_is two.2)
+    subst (λ (x : Tree × List Terminal). Found (suc d) 0 (Mark Open ∷ ts) x.0 x.1) (ok_is two.2)
     (record {
       spelled = ap (λ l. Mark Open ∷ l) (both_spelled ts (spelling one.0.0) one.0.1 (Mark Close ∷ []) two.0 here.spelled close);
       level = here.level;
       nested = omega (arith, here.nested);
     })
 
-nested_finds : (p q : Reader Tree) (d : ℕ) → Finds d 0 p → Finds d 3 q → (s : Sign) (ts : List Terminal) (x : Tree × List Terminal) → nested_with s p q ts ≡ Some x → Found (suc d) 0 (Mark s ∷ ts) x.0 x.1
+nested_finds : (p q : Reader Tree) (d : ℕ) → Finds d 0 p → Finds d 3 q → (s : Sign) (ts : List Terminal) (x : Tree × List Terminal) → nested_with s p q ts ≡ Ok x → Found (suc d) 0 (Mark s ∷ ts) x.0 x.1
 nested_finds p q d f g Tilde ts x e = inverse_finds p d f ts x e
 nested_finds p q d f g Open ts x e = group_finds q d g ts x e
 nested_finds p q d f g _ ts x e = absurd (cc)
 
 leaf_finds : (d : ℕ) (t : Tree) (s : Terminal) (ts : List Terminal) (x : Tree × List Terminal) → spelling t ≡ s ∷ [] → IsAt 0 t → nesting t ≡ 0 →
-    ◌≡◌ {A = Option (Tree × List Terminal)} (Some (t, ts)) (Some x) → Found d 0 (s ∷ ts) x.0 x.1
+    ◌≡◌ {A = Result (Tree × List Terminal) Stop} (Ok (t, ts)) (Ok x) → Found d 0 (s ∷ ts) x.0 x.1
 leaf_finds d t s ts x e h z same =
-    subst (λ (x : Tree × List Terminal). Found d 0 (s ∷ ts) x.0 x.1) (some_is same)
+    subst (λ (x : Tree × List Terminal). Found d 0 (s ∷ ts) x.0 x.1) (ok_is same)
     (record { spelled = sym (ap (λ l. l ++ ts) e); level = h; nested = omega arith })
 
 primary_finds_by : (p q : Reader Tree) (d : ℕ) →
-    ((s : Sign) (ts : List Terminal) (x : Tree × List Terminal) → nested_with s p q ts ≡ Some x → Found d 0 (Mark s ∷ ts) x.0 x.1) →
+    ((s : Sign) (ts : List Terminal) (x : Tree × List Terminal) → nested_with s p q ts ≡ Ok x → Found d 0 (Mark s ∷ ts) x.0 x.1) →
     Finds d 0 (primary_with p q)
 primary_finds_by p q d f [] x e = absurd (cc)
 primary_finds_by p q d f (Gate _ ∷ ts) x e = absurd (cc)
@@ -340,14 +345,14 @@ primary_finds_by p q d f (Name n ∷ ts) x e = leaf_finds d (net n) (Name n) ts 
 primary_finds_by p q d f (Bit b ∷ ts) x e = leaf_finds d (bit b) (Bit b) ts x refl tt refl e
 primary_finds_by p q d f (Mark s ∷ ts) x e = f s ts x e
 
-nothing_nested : (d : ℕ) (s : Sign) (ts : List Terminal) (x : Tree × List Terminal) → nested_with s nothing nothing ts ≡ Some x → Found d 0 (Mark s ∷ ts) x.0 x.1
+nothing_nested : (d : ℕ) (s : Sign) (ts : List Terminal) (x : Tree × List Terminal) → nested_with s too_deep too_deep ts ≡ Ok x → Found d 0 (Mark s ∷ ts) x.0 x.1
 nothing_nested d Tilde ts x e = absurd (cc)
 nothing_nested d Open ts x e = absurd (cc)
 nothing_nested d _ ts x e = absurd (cc)
 
 pub primary_finds : (d : ℕ) → Finds d 0 (primary_at d)
 unfolding primary_at
-primary_finds zero = primary_finds_by nothing nothing 0 (nothing_nested 0)
+primary_finds zero = primary_finds_by too_deep too_deep 0 (nothing_nested 0)
 primary_finds (suc d) =
     primary_finds_by (primary_at d) (level_at (primary_at d) 3) (suc d)
     (nested_finds (primary_at d) (level_at (primary_at d) 3) d (primary_finds d) (level_finds (primary_at d) d (primary_finds d) 3))
@@ -365,7 +370,7 @@ spelling-long (joined t o u ts) = omega (arith, length-append (spelling t) (sign
 
 -- What reads takes at least one terminal.
 pub record Shrinks (p : Reader Tree) : Type 0 where
-  pub less : (ts : List Terminal) (x : Tree × List Terminal) → p ts ≡ Some x → length x.1 < length ts
+  pub less : (ts : List Terminal) (x : Tree × List Terminal) → p ts ≡ Ok x → length x.1 < length ts
 
 pub shrinks : (d k : ℕ) → Shrinks (level_at (primary_at d) k)
 shrinks d k = record {
@@ -379,26 +384,26 @@ joined_tail done us = us
 joined_tail (link o t ts) us = link o t (joined_tail ts us)
 
 -- what was read before, and what is read behind it
-abbrev pub ahead : Tail → Option (Tail × List Terminal) → Option (Tail × List Terminal)
-ahead ts None = None
-ahead ts (Some y) = Some (joined_tail ts y.0, y.1)
+abbrev pub ahead : Tail → Result (Tail × List Terminal) Stop → Result (Tail × List Terminal) Stop
+ahead ts (Ok y) = Ok (joined_tail ts y.0, y.1)
+ahead ts (Err e) = Err e
 
-behind_operator : Reader Tail → Operator → Tree × List Terminal → Option (Tail × List Terminal)
-behind_operator more o x = more x.1 >>= λ y. Some (link o x.0 y.0, y.1)
+behind_operator : Reader Tail → Operator → Tree × List Terminal → Result (Tail × List Terminal) Stop
+behind_operator more o x = more x.1 >>= λ y. Ok (link o x.0 y.0, y.1)
 
 linked_is : (p : Reader Tree) (more : Reader Tail) (o : Operator) (ts : List Terminal) → linked p more (Some o) ts ≡ (p (drop 1 ts) >>= behind_operator more o)
 unfolding behind_operator
 linked_is p more o ts = refl
 
 same_linked : (p : Reader Tree) (k : ℕ) (more other : Reader Tail) (o : Option Operator) (ts : List Terminal) →
-    ((x : Tree × List Terminal) → p (drop 1 ts) ≡ Some x → more x.1 ≡ other x.1) → linked p more o ts ≡ linked p other o ts
+    ((x : Tree × List Terminal) → p (drop 1 ts) ≡ Ok x → more x.1 ≡ other x.1) → linked p more o ts ≡ linked p other o ts
 unfolding behind_operator
 same_linked p k more other None ts f = refl
 same_linked p k more other (Some o) ts f = linked_is p more o ts ∙ (by_first (p (drop 1 ts)) f ∙ sym (linked_is p other o ts))
   where
-    by_first : (r : Option (Tree × List Terminal)) → ((x : Tree × List Terminal) → r ≡ Some x → more x.1 ≡ other x.1) → (r >>= behind_operator more o) ≡ (r >>= behind_operator other o)
-    by_first None f = refl
-    by_first (Some x) f = rw (f x refl) refl
+    by_first : (r : Result (Tree × List Terminal) Stop) → ((x : Tree × List Terminal) → r ≡ Ok x → more x.1 ≡ other x.1) → (r >>= behind_operator more o) ≡ (r >>= behind_operator other o)
+    by_first (Err e) f = refl
+    by_first (Ok x) f = rw (f x refl) refl
 
 -- With room for each operand, how much of it there is doesn't matter.
 same_within : (p : Reader Tree) (k n m : ℕ) (ts : List Terminal) → Shrinks p → length ts ≤ n → length ts ≤ m → tail_within p k n ts ≡ tail_within p k m ts
@@ -415,28 +420,28 @@ operator_is_ahead : (more : Reader Tail) (o : Operator) (t : Tree) (rest : List 
 unfolding behind_operator
 operator_is_ahead more o t rest = by_rest (more rest)
   where
-    by_rest : (r : Option (Tail × List Terminal)) → (r >>= λ (y : Tail × List Terminal). let x : Tail × List Terminal = (link o t y.0, y.1) in Some x) ≡ ahead (link o t done) r
-    by_rest None = refl
-    by_rest (Some y) = refl
+    by_rest : (r : Result (Tail × List Terminal) Stop) → (r >>= λ (y : Tail × List Terminal). let x : Tail × List Terminal = (link o t y.0, y.1) in Ok x) ≡ ahead (link o t done) r
+    by_rest (Err e) = refl
+    by_rest (Ok y) = refl
 
-linked_is_ahead : (p : Reader Tree) (o : Operator) (more : Reader Tail) (t : Tree) (ts rest : List Terminal) → p (drop 1 ts) ≡ Some (t, rest) →
+linked_is_ahead : (p : Reader Tree) (o : Operator) (more : Reader Tail) (t : Tree) (ts rest : List Terminal) → p (drop 1 ts) ≡ Ok (t, rest) →
     linked p more (Some o) ts ≡ ahead (link o t done) (more rest)
 linked_is_ahead p o more t ts rest e = linked_is p more o ts ∙ (ap (λ r. r >>= behind_operator more o) e ∙ operator_is_ahead more o t rest)
 
 -- one operand more, and what is read behind it
-pub tail_next : (p : Reader Tree) (k : ℕ) (o : Operator) (t : Tree) (ts rest : List Terminal) → Shrinks p → operator_at k ts ≡ Some o → p (drop 1 ts) ≡ Some (t, rest) →
+pub tail_next : (p : Reader Tree) (k : ℕ) (o : Operator) (t : Tree) (ts rest : List Terminal) → Shrinks p → operator_at k ts ≡ Some o → p (drop 1 ts) ≡ Ok (t, rest) →
     tail_at p k ts ≡ ahead (link o t done) (tail_at p k rest)
 unfolding tail_at tail_within
 tail_next p k o t [] rest s h e = absurd (cc)
 tail_next p k o t (u ∷ ts) rest s h e =
     rw h (linked_is_ahead p o (tail_within p k (length ts)) t (u ∷ ts) rest e ∙ ap (ahead (link o t done)) (same_within p k (length ts) (length rest) rest s (omega (arith, s.less ts (t, rest) e)) (omega arith)))
 
-pub tail_fails : (p : Reader Tree) (k : ℕ) (o : Operator) (ts : List Terminal) → operator_at k ts ≡ Some o → p (drop 1 ts) ≡ None → tail_at p k ts ≡ None
+pub tail_fails : (p : Reader Tree) (k : ℕ) (o : Operator) (ts : List Terminal) (w : Stop) → operator_at k ts ≡ Some o → p (drop 1 ts) ≡ Err w → tail_at p k ts ≡ Err w
 unfolding tail_at tail_within
-tail_fails p k o [] h e = absurd (cc)
-tail_fails p k o (u ∷ ts) h e = rw h (rw e refl)
+tail_fails p k o [] w h e = absurd (cc)
+tail_fails p k o (u ∷ ts) w h e = rw h (rw e refl)
 
-pub tail_ends : (p : Reader Tree) (k : ℕ) (ts : List Terminal) → operator_at k ts ≡ None → tail_at p k ts ≡ Some (done, ts)
+pub tail_ends : (p : Reader Tree) (k : ℕ) (ts : List Terminal) → operator_at k ts ≡ None → tail_at p k ts ≡ Ok (done, ts)
 unfolding tail_at
 tail_ends p k ts e = tail_none p k (length ts) ts e
 
@@ -448,9 +453,9 @@ joined_tail-assoc : (a b c : Tail) → joined_tail (joined_tail a b) c ≡ joine
 joined_tail-assoc done b c = refl
 joined_tail-assoc (link o t ts) b c = ap (link o t) (joined_tail-assoc ts b c)
 
-pub ahead-ahead : (a b : Tail) (r : Option (Tail × List Terminal)) → ahead (joined_tail a b) r ≡ ahead a (ahead b r)
-ahead-ahead a b None = refl
-ahead-ahead a b (Some y) = ap (λ t. Some (t, y.1)) (joined_tail-assoc a b y.0)
+pub ahead-ahead : (a b : Tail) (r : Result (Tail × List Terminal) Stop) → ahead (joined_tail a b) r ≡ ahead a (ahead b r)
+ahead-ahead a b (Err e) = refl
+ahead-ahead a b (Ok y) = ap (λ (t : Tail). let x : Tail × List Terminal = (t, y.1) in Ok x) (joined_tail-assoc a b y.0)
 
 pub tail-push : (os : List Operand) (o : Operand) → tail (os ++ o ∷ []) ≡ joined_tail (tail os) (link o.operator (tree o.expr) done)
 tail-push [] o = refl
@@ -470,47 +475,50 @@ unfolding primary_at
 primary_open zero ts = refl
 primary_open (suc d) ts = refl
 
-pub primary_empty : (d : ℕ) → primary_at d [] ≡ None
+pub primary_empty : (d : ℕ) → primary_at d [] ≡ stops Primary []
 unfolding primary_at
 primary_empty zero = refl
 primary_empty (suc d) = refl
 
 -- no other mark begins a primary
-pub primary_mark : (d : ℕ) (s : Sign) (ts : List Terminal) → (s ≡ Tilde → ⊥) → (s ≡ Open → ⊥) → primary_at d (Mark s ∷ ts) ≡ None
+pub primary_mark : (d : ℕ) (s : Sign) (ts : List Terminal) → (s ≡ Tilde → ⊥) → (s ≡ Open → ⊥) → primary_at d (Mark s ∷ ts) ≡ stops Primary (Mark s ∷ ts)
 unfolding primary_at
 primary_mark d Tilde ts e f = absurd (e refl)
 primary_mark d Open ts e f = absurd (f refl)
 primary_mark zero _ ts e f = refl
 primary_mark (suc d) _ ts e f = refl
 
-pub primary_gate : (d : ℕ) (op : Op) (ts : List Terminal) → primary_at d (Gate op ∷ ts) ≡ None
+pub primary_gate : (d : ℕ) (op : Op) (ts : List Terminal) → primary_at d (Gate op ∷ ts) ≡ stops Primary (Gate op ∷ ts)
 unfolding primary_at
 primary_gate zero op ts = refl
 primary_gate (suc d) op ts = refl
 
--- nor does a terminal of no text of the grammar
-pub primary_number : (d : ℕ) (ts : List Terminal) → primary_at d (Number ∷ ts) ≡ None
+pub primary_number : (d : ℕ) (ts : List Terminal) → primary_at d (Number ∷ ts) ≡ stops Primary (Number ∷ ts)
 unfolding primary_at
 primary_number zero ts = refl
 primary_number (suc d) ts = refl
 
-pub primary_reserved : (d : ℕ) (ts : List Terminal) → primary_at d (Reserved ∷ ts) ≡ None
+pub primary_reserved : (d : ℕ) (ts : List Terminal) → primary_at d (Reserved ∷ ts) ≡ stops Primary (Reserved ∷ ts)
 unfolding primary_at
 primary_reserved zero ts = refl
 primary_reserved (suc d) ts = refl
 
-pub primary_symbol : (d b : ℕ) (ts : List Terminal) → primary_at d (Symbol b ∷ ts) ≡ None
+pub primary_symbol : (d b : ℕ) (ts : List Terminal) → primary_at d (Symbol b ∷ ts) ≡ stops Primary (Symbol b ∷ ts)
 unfolding primary_at
 primary_symbol zero b ts = refl
 primary_symbol (suc d) b ts = refl
 
 -- Why a reader fails is also why the one above it does.
-pub fails_too : {X Y : Type 0} (e : Stop) (r : Option X) (s : Option Y) → Fails e r → (r ≡ None → s ≡ None) → Fails e s
+pub fails_too : {X Y : Type 0} (e : Stop) (r : Result X Stop) (s : Result Y Stop) → Fails e r → ((w : Stop) → r ≡ Err w → s ≡ Err w) → Fails e s
 fails_too NoMemory r s h f = tt
-fails_too (Bad _ _) r s h f = f h
-fails_too (Deep _) r s h f = f h
+fails_too (Bad left wanted) r s h f = f (Bad left wanted) h
+fails_too (Deep left) r s h f = f (Deep left) h
 
-pub gives_same : {X Y : Type 0} (view : X → Y) (rest : List Terminal) (r : Result X Stop) (a b : Option (Y × List Terminal)) → a ≡ b → Gives view rest r a → Gives view rest r b
+-- a stop where so many terminals are left
+pub stopped_here : {Y : Type 0} (wanted : Wanted) (ts : List Terminal) (left : ℕ) (read : Result Y Stop) → left ≡ length ts → read ≡ stops wanted ts → Fails (Bad left wanted) read
+stopped_here wanted ts left read h e = e ∙ ap (λ n. Err (Bad n wanted)) (sym h)
+
+pub gives_same : {X Y : Type 0} (view : X → Y) (rest : List Terminal) (r : Result X Stop) (a b : Result (Y × List Terminal) Stop) → a ≡ b → Gives view rest r a → Gives view rest r b
 gives_same view rest r a b e h = subst (λ x. Gives view rest r x) e h
 
 pub level_none : (p : Reader Tree) (k : ℕ) (ts : List Terminal) → k ≡ 0 → p ts ≡ level_at p k ts
@@ -526,21 +534,21 @@ row_tail-vec v = row_tail-items _ (hidden-the_row-Operand-0 v) ∙ ap tail (item
 
 -- The loop over the operands of a level: what was read, and what is read behind it, is what is read at the start.
 pub operands_fail : (p : Reader Tree) (k : ℕ) (o : Operator) (acc : Tail) (ts behind start : List Terminal) → operator_at k ts ≡ Some o → behind ≡ drop 1 ts →
-    ahead acc (tail_at p k ts) ≡ tail_at p k start → p behind ≡ None → tail_at p k start ≡ None
-operands_fail p k o acc ts behind start h b e f = sym e ∙ ap (ahead acc) (tail_fails p k o ts h (ap p (sym b) ∙ f))
+    ahead acc (tail_at p k ts) ≡ tail_at p k start → (w : Stop) → p behind ≡ Err w → tail_at p k start ≡ Err w
+operands_fail p k o acc ts behind start h b e w f = sym e ∙ ap (ahead acc) (tail_fails p k o ts w h (ap p (sym b) ∙ f))
 
 pub operands_go_on : (p : Reader Tree) (k : ℕ) (o : Operator) (acc : Tail) (t : Tree) (ts behind rest start : List Terminal) → Shrinks p → operator_at k ts ≡ Some o → behind ≡ drop 1 ts →
-    ahead acc (tail_at p k ts) ≡ tail_at p k start → p behind ≡ Some (t, rest) → ahead (joined_tail acc (link o t done)) (tail_at p k rest) ≡ tail_at p k start
+    ahead acc (tail_at p k ts) ≡ tail_at p k start → p behind ≡ Ok (t, rest) → ahead (joined_tail acc (link o t done)) (tail_at p k rest) ≡ tail_at p k start
 operands_go_on p k o acc t ts behind rest start s h b e f =
     ahead-ahead acc (link o t done) (tail_at p k rest) ∙ (ap (ahead acc) (sym (tail_next p k o t ts rest s h (ap p (sym b) ∙ f))) ∙ e)
 
-pub operands_end : (p : Reader Tree) (k : ℕ) (acc : Tail) (ts start : List Terminal) → operator_at k ts ≡ None → ahead acc (tail_at p k ts) ≡ tail_at p k start → tail_at p k start ≡ Some (acc, ts)
-operands_end p k acc ts start h e = sym e ∙ (ap (ahead acc) (tail_ends p k ts h) ∙ ap (λ t. Some (t, ts)) (joined_tail-done acc))
+pub operands_end : (p : Reader Tree) (k : ℕ) (acc : Tail) (ts start : List Terminal) → operator_at k ts ≡ None → ahead acc (tail_at p k ts) ≡ tail_at p k start → tail_at p k start ≡ Ok (acc, ts)
+operands_end p k acc ts start h e = sym e ∙ (ap (ahead acc) (tail_ends p k ts h) ∙ ap (λ (t : Tail). let x : Tail × List Terminal = (t, ts) in Ok x) (joined_tail-done acc))
 
-pub operands_shrink : (p : Reader Tree) (t : Tree) (ts behind rest : List Terminal) → Shrinks p → behind ≡ drop 1 ts → p behind ≡ Some (t, rest) → length rest < length ts
+pub operands_shrink : (p : Reader Tree) (t : Tree) (ts behind rest : List Terminal) → Shrinks p → behind ≡ drop 1 ts → p behind ≡ Ok (t, rest) → length rest < length ts
 operands_shrink p t ts behind rest s b f = omega (arith, s.less behind (t, rest) f, ap length b, length-drop 1 ts)
 
-pub primary_neither : (d : ℕ) (t : Terminal) (ts : List Terminal) → ((op : Op) × (t ≡ Gate op)) ⊎ ((t ≡ Number) ⊎ ((t ≡ Reserved) ⊎ ((b : ℕ) × (t ≡ Symbol b)))) → primary_at d (t ∷ ts) ≡ None
+pub primary_neither : (d : ℕ) (t : Terminal) (ts : List Terminal) → ((op : Op) × (t ≡ Gate op)) ⊎ ((t ≡ Number) ⊎ ((t ≡ Reserved) ⊎ ((b : ℕ) × (t ≡ Symbol b)))) → primary_at d (t ∷ ts) ≡ stops Primary (t ∷ ts)
 primary_neither d t ts (inl (op, e)) = rw e (primary_gate d op ts)
 primary_neither d t ts (inr (inl e)) = rw e (primary_number d ts)
 primary_neither d t ts (inr (inr (inl e))) = rw e (primary_reserved d ts)
@@ -553,27 +561,27 @@ joined_tree first second f g o v h k =
     ∙ ap (joined (tree first) o (tree second)) (row_tail-vec v)
 
 -- Operands of a level, joined: the first, and where an operator follows, the second and those behind it.
-pub joined_one : (p : Reader Tree) (k : ℕ) (t : Tree) (ts rest : List Terminal) → p ts ≡ Some (t, rest) → operator_at k rest ≡ None → joined_at p k ts ≡ Some (t, rest)
+pub joined_one : (p : Reader Tree) (k : ℕ) (t : Tree) (ts rest : List Terminal) → p ts ≡ Ok (t, rest) → operator_at k rest ≡ None → joined_at p k ts ≡ Ok (t, rest)
 unfolding joined_at
 joined_one p k t ts rest e h = rw (e, tail_ends p k rest h) refl
 
-pub joined_second_fails : (p : Reader Tree) (k : ℕ) (t : Tree) (o : Operator) (ts rest behind : List Terminal) → p ts ≡ Some (t, rest) → operator_at k rest ≡ Some o → behind ≡ drop 1 rest →
-    p behind ≡ None → joined_at p k ts ≡ None
+pub joined_second_fails : (p : Reader Tree) (k : ℕ) (t : Tree) (o : Operator) (ts rest behind : List Terminal) → p ts ≡ Ok (t, rest) → operator_at k rest ≡ Some o → behind ≡ drop 1 rest →
+    (w : Stop) → p behind ≡ Err w → joined_at p k ts ≡ Err w
 unfolding joined_at
-joined_second_fails p k t o ts rest behind e h b f = rw (e, tail_fails p k o rest h (ap p (sym b) ∙ f)) refl
+joined_second_fails p k t o ts rest behind e h b w f = rw (e, tail_fails p k o rest w h (ap p (sym b) ∙ f)) refl
 
-pub joined_more_fails : (p : Reader Tree) (k : ℕ) (t u : Tree) (o : Operator) (ts rest behind next : List Terminal) → Shrinks p → p ts ≡ Some (t, rest) → operator_at k rest ≡ Some o → behind ≡ drop 1 rest →
-    p behind ≡ Some (u, next) → tail_at p k next ≡ None → joined_at p k ts ≡ None
+pub joined_more_fails : (p : Reader Tree) (k : ℕ) (t u : Tree) (o : Operator) (ts rest behind next : List Terminal) → Shrinks p → p ts ≡ Ok (t, rest) → operator_at k rest ≡ Some o → behind ≡ drop 1 rest →
+    p behind ≡ Ok (u, next) → (w : Stop) → tail_at p k next ≡ Err w → joined_at p k ts ≡ Err w
 unfolding joined_at
-joined_more_fails p k t u o ts rest behind next s e h b f g =
+joined_more_fails p k t u o ts rest behind next s e h b f w g =
     rw (e, tail_next p k o u rest next s h (ap p (sym b) ∙ f), g) refl
 
-pub joined_all : (p : Reader Tree) (k : ℕ) (t u : Tree) (o : Operator) (more : Tail) (ts rest behind next last : List Terminal) → Shrinks p → p ts ≡ Some (t, rest) → operator_at k rest ≡ Some o → behind ≡ drop 1 rest →
-    p behind ≡ Some (u, next) → tail_at p k next ≡ Some (more, last) → joined_at p k ts ≡ Some (joined t o u more, last)
+pub joined_all : (p : Reader Tree) (k : ℕ) (t u : Tree) (o : Operator) (more : Tail) (ts rest behind next last : List Terminal) → Shrinks p → p ts ≡ Ok (t, rest) → operator_at k rest ≡ Some o → behind ≡ drop 1 rest →
+    p behind ≡ Ok (u, next) → tail_at p k next ≡ Ok (more, last) → joined_at p k ts ≡ Ok (joined t o u more, last)
 unfolding joined_at
 joined_all p k t u o more ts rest behind next last s e h b f g =
     rw (e, tail_next p k o u rest next s h (ap p (sym b) ∙ f), g) refl
 
-pub gives_tree : (r : Result Expr Stop) (t : Tree) (rest : List Terminal) (read : Option (Tree × List Terminal)) → IfOk r (λ e. tree e ≡ t) → IfErr r (λ e. e ≡ NoMemory) → read ≡ Some (t, rest) → Gives tree rest r read
-gives_tree (Ok x) t rest read h f e = e ∙ ap (λ (u : Tree). let y : Tree × List Terminal = (u, rest) in Some y) (sym h)
+pub gives_tree : (r : Result Expr Stop) (t : Tree) (rest : List Terminal) (read : Result (Tree × List Terminal) Stop) → IfOk r (λ e. tree e ≡ t) → IfErr r (λ e. e ≡ NoMemory) → read ≡ Ok (t, rest) → Gives tree rest r read
+gives_tree (Ok x) t rest read h f e = e ∙ ap (λ (u : Tree). let y : Tree × List Terminal = (u, rest) in Ok y) (sym h)
 gives_tree (Err w) t rest read h f e = subst (λ (v : Stop). Fails v read) (sym f) tt

@@ -1,13 +1,15 @@
 -- What reads a module reads each that the grammar has, and nothing else.
-use Rattle.std.proofs.Common.{◌≡◌, ◌≢◌, ℕ, zero, suc, ◌<◌, ◌≤◌, Bool, true, false, ◌&&◌, cond, List, [], ◌∷◌, length, length-append, Option, Some, None, refl, sym, ap, subst, ◌∙◌, ◌⊎◌, inl, inr, ⊎_elim, arith}
+use Rattle.std.proofs.Common.{◌≡◌, ◌≢◌, ℕ, zero, suc, ◌<◌, ◌≤◌, Bool, true, false, ◌&&◌, cond, List, [], ◌∷◌, length, length-append, Option, Some, None, Result, Ok, Err, refl, sym, ap, subst, ◌∙◌, ◌⊎◌, inl, inr, ⊎_elim, arith}
 use Rattle.std.specs.Option.{is_some}
-use Rattle.std.specs.Prelude.{IsSome}
+use Rattle.std.specs.Prelude.{IsSome, is_ok}
 use Rattle.bx_logic.specs.declared.op.Op.{Op}
 use Rattle.bx_logic.specs.declared.op.Op.TheVariants.{Buf, Not, And, Or, Nand, Nor, Xor, Xnor}
 use Rattle.bx_syntax.specs.declared.terminal.Terminal.{Terminal}
 use Rattle.bx_syntax.specs.declared.terminal.Terminal.TheVariants.{Mark, Gate as GateWord, Name, Bit, Number, Reserved, Symbol}
 use Rattle.bx_syntax.specs.declared.terminal.Mark.{Mark as Sign}
 use Rattle.bx_syntax.specs.declared.terminal.Mark.TheVariants.{Module as ModuleWord, EndModule, Input as InputWord, Output as OutputWord, Wire as WireWord, Assign as AssignWord, Open, Close, Comma, Semicolon, Equals}
+use Rattle.bx_syntax.specs.declared.stop.Stop.{Stop}
+use Rattle.bx_syntax.specs.declared.stop.Wanted.TheVariants.{Other}
 use Rattle.bx_syntax.specs.declared.tree.Direction.{Direction}
 use Rattle.bx_syntax.specs.declared.tree.Direction.TheVariants.{Input, Output}
 use Rattle.bx_syntax.specs.declared.tree.Port.{Port}
@@ -18,21 +20,21 @@ use Rattle.bx_syntax.specs.Parts.{PartTree, declaration, wire, assign, gate, cop
 use Rattle.bx_syntax.specs.Expressions.{spelling}
 use Rattle.bx_syntax.specs.ReadsExpressions.{Reader, ◌>>=◌, behind, expr_at}
 use Rattle.bx_syntax.specs.Repeats.{repeat_within, repeated, ahead_of}
-use Rattle.bx_syntax.specs.ReadsModules.{next_is, name_at, past, past_name, comma_next, comma_step, listed_at, is_net, net_name, comma_behind_net, past_wire, kind_at, item_next, directed, direction_of, port_at, comma_port, port_next, ports_at, header_at, at_end, expression, wire_at, assign_at, many_at, name_and_expression, few_at, connections_at, gate_at, part_at, item_at, one_item, module_at}
+use Rattle.bx_syntax.specs.ReadsModules.{or_stop, next_is, name_at, past, past_name, comma_next, comma_step, listed_at, is_net, net_name, comma_behind_net, past_wire, kind_at, item_next, directed, direction_of, port_at, comma_port, port_next, ports_at, header_at, at_end, expression, wire_at, assign_at, many_at, name_and_expression, few_at, connections_at, gate_at, part_at, item_at, one_item, module_at}
 use Rattle.bx_syntax.specs.Grammar.{Between, Is, IsOptional, IsName, IsLabel, AreMore, AreListed, word, IsExpr, IsWire, IsGate, IsPart, IsHead, IsItem, AreItems, IsPlain, IsDirected, ArePortsBehind, ArePorts, IsHeader, IsModule}
-use Rattle.bx_syntax.proofs.ReadsExpressions.{bind_some, some_is, behind_is, behind_mark, finds, again, Ends}
+use Rattle.bx_syntax.proofs.ReadsExpressions.{bind_ok, ok_is, behind_is, behind_mark, finds, again, Ends}
 use Rattle.bx_syntax.proofs.Repeats.{Repeats, ahead_is, repeated_step, repeated_stops}
 
 -- What a reader reads stands there.
 abbrev Reads : {A : Type 0} → (A → Between) → Reader A → Type 0
-Reads {A = A} IsX p = (ts : List Terminal) (x : A × List Terminal) → p ts ≡ Some x → IsX x.0 ts x.1
+Reads {A = A} IsX p = (ts : List Terminal) (x : A × List Terminal) → p ts ≡ Ok x → IsX x.0 ts x.1
 
 pub expression_reads : (limit : ℕ) → Reads (IsExpr limit) (expression limit)
 unfolding expression
 expression_reads limit ts x e = let f = finds limit 3 ts x e in (f.level, f.nested, f.spelled)
 
 name_reads : Reads IsName name_at
-name_reads (Name n ∷ ts) x e = subst (λ (x : List ℕ × List Terminal). IsName x.0 (Name n ∷ ts) x.1) (some_is e) refl
+name_reads (Name n ∷ ts) x e = subst (λ (x : List ℕ × List Terminal). IsName x.0 (Name n ∷ ts) x.1) (ok_is e) refl
 name_reads [] x e = absurd (cc)
 name_reads (Mark s ∷ ts) x e = absurd (cc)
 name_reads (GateWord s ∷ ts) x e = absurd (cc)
@@ -47,9 +49,9 @@ past_mark s r ts = by_rest (behind s (Mark r ∷ ts)) refl
     tail_is : (a b : List Terminal) (m n : Terminal) → m ∷ a ≡ n ∷ b → m ∷ a ≡ n ∷ a
     tail_is a b m n e = cc
 
-    by_rest : (o : Option (List Terminal)) → behind s (Mark r ∷ ts) ≡ o → (Mark r ∷ ts ≡ Mark s ∷ ts) ⊎ (is_some o ≡ false)
-    by_rest None e = inr refl
-    by_rest (Some rest) e = inl (tail_is ts rest (Mark r) (Mark s) (behind_is s (Mark r ∷ ts) rest e))
+    by_rest : (o : Result (List Terminal) Stop) → behind s (Mark r ∷ ts) ≡ o → (Mark r ∷ ts ≡ Mark s ∷ ts) ⊎ (is_ok o ≡ false)
+    by_rest (Err w) e = inr refl
+    by_rest (Ok rest) e = inl (tail_is ts rest (Mark r) (Mark s) (behind_is s (Mark r ∷ ts) rest e))
 
 past_is : (s : Sign) (ts : List Terminal) → IsOptional (Mark s) ts (past s ts)
 past_is s (Mark r ∷ ts) =
@@ -77,27 +79,27 @@ past_name_is (Reserved ∷ ts) = inl refl
 past_name_is (Symbol b ∷ ts) = inl refl
 
 pub there : {A : Type 0} (IsX : A → Between) (ts : List Terminal) {a : A} {rest : List Terminal} {x : A × List Terminal} →
-    ◌≡◌ {A = Option (A × List Terminal)} (Some (a, rest)) (Some x) → IsX a ts rest → IsX x.0 ts x.1
-there {A = A} IsX ts e h = subst (λ (x : A × List Terminal). IsX x.0 ts x.1) (some_is e) h
+    ◌≡◌ {A = Result (A × List Terminal) Stop} (Ok (a, rest)) (Ok x) → IsX a ts rest → IsX x.0 ts x.1
+there {A = A} IsX ts e h = subst (λ (x : A × List Terminal). IsX x.0 ts x.1) (ok_is e) h
 
-chosen : {A : Type 0} {b : Bool} {o q : Option A} {x : A} → cond b o q ≡ Some x → ((b ≡ true) × (o ≡ Some x)) ⊎ ((b ≡ false) × (q ≡ Some x))
+chosen : {A : Type 0} {b : Bool} {o q : Result A Stop} {x : A} → cond b o q ≡ Ok x → ((b ≡ true) × (o ≡ Ok x)) ⊎ ((b ≡ false) × (q ≡ Ok x))
 chosen {b = true} e = inl (refl, e)
 chosen {b = false} e = inr (refl, e)
 
-wire_with : (limit : ℕ) → List ℕ → List Terminal → Option (PartTree × List Terminal)
-wire_with limit n ts = behind Equals ts >>= λ r. expression limit r >>= λ e. Some (wire n (Some e.0), e.1)
+wire_with : (limit : ℕ) → List ℕ → List Terminal → Result (PartTree × List Terminal) Stop
+wire_with limit n ts = behind Equals ts >>= λ r. expression limit r >>= λ e. Ok (wire n (Some e.0), e.1)
 
-wire_value : (limit : ℕ) (n : List ℕ) (ts m : List Terminal) (x : PartTree × List Terminal) → IsName n ts m → wire_with limit n m ≡ Some x → IsPart limit Wire x.0 ts x.1
+wire_value : (limit : ℕ) (n : List ℕ) (ts m : List Terminal) (x : PartTree × List Terminal) → IsName n ts m → wire_with limit n m ≡ Ok x → IsPart limit Wire x.0 ts x.1
 unfolding wire_with
 wire_value limit n ts m x name e =
-    let r = bind_some {o = behind Equals m} e in
-    let t = bind_some {o = expression limit r.0} r.2 in
+    let r = bind_ok {o = behind Equals m} e in
+    let t = bind_ok {o = expression limit r.0} r.2 in
     there (IsPart limit Wire) ts t.2 (m, r.0, name, behind_is Equals m r.0 r.1, expression_reads limit r.0 t.0 t.1)
 
 wire_reads : (limit : ℕ) → Reads (IsPart limit Wire) (wire_at limit)
 unfolding wire_at wire_with
 wire_reads limit ts x e =
-    let n = bind_some {o = name_at ts} e in
+    let n = bind_ok {o = name_at ts} e in
     ⊎_elim
     (λ yes. wire_value limit n.0.0 ts n.0.1 x (name_reads ts n.0 n.1) yes.1)
     (λ no. there (IsPart limit Wire) ts no.1 (name_reads ts n.0 n.1))
@@ -106,30 +108,30 @@ wire_reads limit ts x e =
 assign_reads : (limit : ℕ) → Reads (IsPart limit Assign) (assign_at limit)
 unfolding assign_at
 assign_reads limit ts x e =
-    let n = bind_some {o = name_at ts} e in
-    let r = bind_some {o = behind Equals n.0.1} n.2 in
-    let t = bind_some {o = expression limit r.0} r.2 in
+    let n = bind_ok {o = name_at ts} e in
+    let r = bind_ok {o = behind Equals n.0.1} n.2 in
+    let t = bind_ok {o = expression limit r.0} r.2 in
     there (IsPart limit Assign) ts t.2
     (n.0.1, r.0, name_reads ts n.0 n.1, behind_is Equals n.0.1 r.0 r.1, expression_reads limit r.0 t.0 t.1)
 
 step_reads : {A : Type 0} (IsX : A → Between) (p : Reader A) → Reads IsX p → (s : Unit {0}) (ts : List Terminal) (x : (A × Unit {0}) × List Terminal) →
-    comma_step p s ts ≡ Some x → (c : List Terminal) × Is (Mark Comma) ts c × IsX x.0.0 c x.1
+    comma_step p s ts ≡ Ok x → (c : List Terminal) × Is (Mark Comma) ts c × IsX x.0.0 c x.1
 step_reads IsX p f s ts x e =
-    let r = bind_some {o = behind Comma ts} e in
-    let a = bind_some {o = p r.0} r.2 in
+    let r = bind_ok {o = behind Comma ts} e in
+    let a = bind_ok {o = p r.0} r.2 in
     (r.0, behind_is Comma ts r.0 r.1, there (λ y. IsX y.0) r.0 a.2 (f r.0 a.0 a.1))
 
 -- { ',' x }, where x is read so
 more_read : {A : Type 0} (IsX : A → Between) (p : Reader A) → Reads IsX p →
     (n : ℕ) (s : Unit {0}) (ts : List Terminal) (x : (List A × Unit {0}) × List Terminal) →
-    repeat_within comma_next (comma_step p) n s ts ≡ Some x → AreMore IsX x.0.0 ts x.1
+    repeat_within comma_next (comma_step p) n s ts ≡ Ok x → AreMore IsX x.0.0 ts x.1
 unfolding repeat_within
 more_read IsX p f zero s ts x e = there (λ y. AreMore IsX y.0) ts e refl
 more_read IsX p f (suc n) s ts x e =
     ⊎_elim
     (λ yes.
-    let a = bind_some {o = comma_step p s ts} yes.1 in
-    let y = bind_some {o = repeat_within comma_next (comma_step p) n a.0.0.1 a.0.1} a.2 in
+    let a = bind_ok {o = comma_step p s ts} yes.1 in
+    let y = bind_ok {o = repeat_within comma_next (comma_step p) n a.0.0.1 a.0.1} a.2 in
     let one = step_reads IsX p f s ts a.0 a.1 in
     there (λ z. AreMore IsX z.0) ts y.2 (one.0, a.0.1, one.1, one.2, more_read IsX p f n a.0.0.1 a.0.1 y.0 y.1))
     (λ no. there (λ y. AreMore IsX y.0) ts no.1 refl)
@@ -138,19 +140,19 @@ more_read IsX p f (suc n) s ts x e =
 listed_reads : {A : Type 0} (IsX : A → Between) (p : Reader A) → Reads IsX p → Reads (AreListed IsX) (listed_at p)
 unfolding repeated
 listed_reads {A = A} IsX p f ts x e =
-    let a = bind_some {o = p ts} e in
-    let all = bind_some {o = ahead_of (a.0.0 ∷ []) (repeated comma_next (comma_step p) tt a.0.1)} a.2 in
+    let a = bind_ok {o = p ts} e in
+    let all = bind_ok {o = ahead_of (a.0.0 ∷ []) (repeated comma_next (comma_step p) tt a.0.1)} a.2 in
     let y = ahead_is a.0.0 (repeated comma_next (comma_step p) tt a.0.1) all.0 all.1 in
-    there (AreListed IsX) ts (ap (λ (w : (List A × Unit {0}) × List Terminal). let v : List A × List Terminal = (w.0.0, w.1) in Some v) y.2 ∙ all.2)
+    there (AreListed IsX) ts (ap (λ (w : (List A × Unit {0}) × List Terminal). let v : List A × List Terminal = (w.0.0, w.1) in Ok v) y.2 ∙ all.2)
     (a.0.1, f ts a.0 a.1, more_read IsX p f (length a.0.1) tt a.0.1 y.0 y.1)
 
-many_reads : (limit : ℕ) (op : Op) (n : List ℕ) (ts : List Terminal) (x : PartTree × List Terminal) → many_at limit op n ts ≡ Some x →
+many_reads : (limit : ℕ) (op : Op) (n : List ℕ) (ts : List Terminal) (x : PartTree × List Terminal) → many_at limit op n ts ≡ Ok x →
     (es : List Tree) × (x.0 ≡ gate op n es) × AreListed (IsExpr limit) es ts x.1
 unfolding many_at
 many_reads limit op n ts x e =
-    let es = bind_some {o = listed_at (expression limit) ts} e in (
+    let es = bind_ok {o = listed_at (expression limit) ts} e in (
       es.0.0,
-      ap (λ (y : PartTree × List Terminal). y.0) (sym (some_is es.2)),
+      ap (λ (y : PartTree × List Terminal). y.0) (sym (ok_is es.2)),
       there (λ y. AreListed (IsExpr limit) es.0.0) ts es.2 (listed_reads (IsExpr limit) (expression limit) (expression_reads limit) ts es.0 es.1),
     )
 
@@ -171,26 +173,26 @@ and_second : (a b : Bool) → a && b ≡ true → b ≡ true
 and_second true b e = e
 and_second false b e = absurd (cc)
 
-name_step_reads : (limit : ℕ) (t : Tree) (ts : List Terminal) (x : (List ℕ × Tree) × List Terminal) → name_and_expression limit t ts ≡ Some x →
+name_step_reads : (limit : ℕ) (t : Tree) (ts : List Terminal) (x : (List ℕ × Tree) × List Terminal) → name_and_expression limit t ts ≡ Ok x →
     (c : List Terminal) × (x.0.0 ≡ net_name t) × Is (Mark Comma) ts c × IsExpr limit x.0.1 c x.1
 name_step_reads limit t ts x e =
-    let r = bind_some {o = behind Comma ts} e in
-    let a = bind_some {o = expression limit r.0} r.2 in (
+    let r = bind_ok {o = behind Comma ts} e in
+    let a = bind_ok {o = expression limit r.0} r.2 in (
       r.0,
-      ap (λ (y : (List ℕ × Tree) × List Terminal). y.0.0) (sym (some_is a.2)),
+      ap (λ (y : (List ℕ × Tree) × List Terminal). y.0.0) (sym (ok_is a.2)),
       behind_is Comma ts r.0 r.1,
       there (λ y. IsExpr limit y.1) r.0 a.2 (expression_reads limit r.0 a.0 a.1),
     )
 
 names_read : (limit : ℕ) (n : ℕ) (t : Tree) (ts : List Terminal) (x : (List (List ℕ) × Tree) × List Terminal) →
-    repeat_within comma_behind_net (name_and_expression limit) n t ts ≡ Some x → AreNames limit t x.0.0 x.0.1 ts x.1
+    repeat_within comma_behind_net (name_and_expression limit) n t ts ≡ Ok x → AreNames limit t x.0.0 x.0.1 ts x.1
 unfolding repeat_within
 names_read limit zero t ts x e = there (λ y. AreNames limit t y.0 y.1) ts e (refl, refl)
 names_read limit (suc n) t ts x e =
     ⊎_elim
     (λ yes.
-    let a = bind_some {o = name_and_expression limit t ts} yes.1 in
-    let y = bind_some {o = repeat_within comma_behind_net (name_and_expression limit) n a.0.0.1 a.0.1} a.2 in
+    let a = bind_ok {o = name_and_expression limit t ts} yes.1 in
+    let y = bind_ok {o = repeat_within comma_behind_net (name_and_expression limit) n a.0.0.1 a.0.1} a.2 in
     let one = name_step_reads limit t ts a.0 a.1 in
     let is = net_is t (and_second (next_is Comma ts) (is_net t) yes.0) in
     there (λ z. AreNames limit t z.0 z.1) ts y.2
@@ -205,40 +207,40 @@ names_listed limit t (n ∷ ns) u b c d rest h f (v, e, i, is, comma, one, more)
     let last = names_listed limit v ns u d e i rest comma one more in
     (last.0, last.1, (c, d, h, (subst (λ w. IsExpr limit w c d) is f).2, last.2), last.3, last.4)
 
-few_reads : (limit : ℕ) (op : Op) (n : List ℕ) (a b c : List Terminal) (x : PartTree × List Terminal) → IsName n a b → Is (Mark Comma) b c → few_at limit op n c ≡ Some x →
+few_reads : (limit : ℕ) (op : Op) (n : List ℕ) (a b c : List Terminal) (x : PartTree × List Terminal) → IsName n a b → Is (Mark Comma) b c → few_at limit op n c ≡ Ok x →
     (ns : List (List ℕ)) × (t : Tree) × (m : List Terminal) × (k : List Terminal) × (x.0 ≡ copies op ns t) × AreListed IsName ns a m × Is (Mark Comma) m k × IsExpr limit t k x.1
 unfolding few_at repeated
 few_reads limit op n a b c x name comma e =
-    let t = bind_some {o = expression limit c} e in
-    let all = bind_some {o = ahead_of (n ∷ []) (repeated comma_behind_net (name_and_expression limit) t.0.0 t.0.1)} t.2 in
+    let t = bind_ok {o = expression limit c} e in
+    let all = bind_ok {o = ahead_of (n ∷ []) (repeated comma_behind_net (name_and_expression limit) t.0.0 t.0.1)} t.2 in
     let y = ahead_is n (repeated comma_behind_net (name_and_expression limit) t.0.0 t.0.1) all.0 all.1 in
-    let same : Some (copies op (n ∷ y.0.0.0) y.0.0.1, y.0.1) ≡ Some x =
-    ap (λ (w : (List (List ℕ) × Tree) × List Terminal). let v : PartTree × List Terminal = (copies op w.0.0 w.0.1, w.1) in Some v) y.2 ∙ all.2 in
+    let same : Ok (copies op (n ∷ y.0.0.0) y.0.0.1, y.0.1) ≡ Ok x =
+    ap (λ (w : (List (List ℕ) × Tree) × List Terminal). let v : PartTree × List Terminal = (copies op w.0.0 w.0.1, w.1) in Ok v) y.2 ∙ all.2 in
     let found = names_listed limit t.0.0 y.0.0.0 y.0.0.1 b c t.0.1 y.0.1 comma (expression_reads limit c t.0 t.1) (names_read limit (length t.0.1) t.0.0 t.0.1 y.0 y.1) in (
       n ∷ y.0.0.0,
       y.0.0.1,
       found.0,
       found.1,
-      ap (λ (z : PartTree × List Terminal). z.0) (sym (some_is same)),
+      ap (λ (z : PartTree × List Terminal). z.0) (sym (ok_is same)),
       (b, name, found.2),
       found.3,
       there (λ z. IsExpr limit y.0.0.1) found.1 same found.4,
     )
 
 few_gate : (limit : ℕ) (op : Op) (n : List ℕ) (l a b c rest : List Terminal) (x : PartTree × List Terminal) → ((op ≡ Buf) ⊎ (op ≡ Not)) →
-    Is (Mark Open) l a → IsName n a b → Is (Mark Comma) b c → few_at limit op n c ≡ Some x → Is (Mark Close) x.1 rest → IsGate limit op x.0 l rest
+    Is (Mark Open) l a → IsName n a b → Is (Mark Comma) b c → few_at limit op n c ≡ Ok x → Is (Mark Close) x.1 rest → IsGate limit op x.0 l rest
 few_gate limit op n l a b c rest x which opens name comma e close =
     let f = few_reads limit op n a b c x name comma e in
     subst (λ (p : PartTree). IsGate limit op p l rest) (sym f.4) (refl, which, (a, f.2, f.3, x.1, opens, f.5, f.6, f.7, close))
 
 many_gate : (limit : ℕ) (op : Op) (n : List ℕ) (l a b c rest : List Terminal) (x : PartTree × List Terminal) → op ≢ Buf → op ≢ Not →
-    Is (Mark Open) l a → IsName n a b → Is (Mark Comma) b c → many_at limit op n c ≡ Some x → Is (Mark Close) x.1 rest → IsGate limit op x.0 l rest
+    Is (Mark Open) l a → IsName n a b → Is (Mark Comma) b c → many_at limit op n c ≡ Ok x → Is (Mark Close) x.1 rest → IsGate limit op x.0 l rest
 many_gate limit op n l a b c rest x f g opens name comma e close =
     let m = many_reads limit op n c x e in
     subst (λ (p : PartTree). IsGate limit op p l rest) (sym m.1) (refl, f, g, (a, b, c, x.1, opens, name, comma, m.2, close))
 
 connections_read : (limit : ℕ) (op : Op) (n : List ℕ) (l a b c rest : List Terminal) (x : PartTree × List Terminal) →
-    Is (Mark Open) l a → IsName n a b → Is (Mark Comma) b c → connections_at limit op n c ≡ Some x → Is (Mark Close) x.1 rest → IsGate limit op x.0 l rest
+    Is (Mark Open) l a → IsName n a b → Is (Mark Comma) b c → connections_at limit op n c ≡ Ok x → Is (Mark Close) x.1 rest → IsGate limit op x.0 l rest
 connections_read limit Buf n l a b c rest x = few_gate limit Buf n l a b c rest x (inl refl)
 connections_read limit Not n l a b c rest x = few_gate limit Not n l a b c rest x (inr refl)
 connections_read limit And n l a b c rest x = many_gate limit And n l a b c rest x (λ e. cc) (λ e. cc)
@@ -251,11 +253,11 @@ connections_read limit Xnor n l a b c rest x = many_gate limit Xnor n l a b c re
 gate_reads : (limit : ℕ) (op : Op) → Reads (IsPart limit (Gate op)) (gate_at limit op)
 unfolding gate_at
 gate_reads limit op ts x e =
-    let a = bind_some {o = behind Open (past_name ts)} e in
-    let n = bind_some {o = name_at a.0} a.2 in
-    let b = bind_some {o = behind Comma n.0.1} n.2 in
-    let c = bind_some {o = connections_at limit op n.0.0 b.0} b.2 in
-    let d = bind_some {o = behind Close c.0.1} c.2 in
+    let a = bind_ok {o = behind Open (past_name ts)} e in
+    let n = bind_ok {o = name_at a.0} a.2 in
+    let b = bind_ok {o = behind Comma n.0.1} n.2 in
+    let c = bind_ok {o = connections_at limit op n.0.0 b.0} b.2 in
+    let d = bind_ok {o = behind Close c.0.1} c.2 in
     there (IsPart limit (Gate op)) ts d.2 (
       past_name ts,
       past_name_is ts,
@@ -265,7 +267,7 @@ gate_reads limit op ts x e =
 
 part_reads : (limit : ℕ) (k : Kind) → Reads (IsPart limit k) (part_at limit k)
 part_reads limit (Declaration d) ts x e =
-    let n = bind_some {o = name_at ts} e in
+    let n = bind_ok {o = name_at ts} e in
     there (IsPart limit (Declaration d)) ts n.2 (refl, name_reads ts n.0 n.1)
 part_reads limit Wire ts x e = wire_reads limit ts x e
 part_reads limit Assign ts x e = assign_reads limit ts x e
@@ -274,7 +276,7 @@ part_reads limit (Gate op) ts x e = gate_reads limit op ts x e
 past_wire_is : (d : Direction) (ts a : List Terminal) → Is (word d) ts a → IsHead (Declaration d) ts (past_wire (Declaration d) a)
 past_wire_is d ts a h = (a, h, past_is WireWord a)
 
-kind_reads : (ts : List Terminal) (x : Kind × List Terminal) → kind_at ts ≡ Some x → IsHead x.0 ts x.1
+kind_reads : (ts : List Terminal) (x : Kind × List Terminal) → kind_at ts ≡ Ok x → IsHead x.0 ts x.1
 kind_reads (GateWord op ∷ ts) x e = there IsHead (GateWord op ∷ ts) e refl
 kind_reads (Mark InputWord ∷ ts) x e = there IsHead (Mark InputWord ∷ ts) e (past_wire_is Input (Mark InputWord ∷ ts) ts refl)
 kind_reads (Mark OutputWord ∷ ts) x e = there IsHead (Mark OutputWord ∷ ts) e (past_wire_is Output (Mark OutputWord ∷ ts) ts refl)
@@ -285,40 +287,40 @@ kind_reads _ x e = absurd (cc)
 item_reads : (limit : ℕ) → Reads (IsItem limit) (item_at limit)
 unfolding item_at
 item_reads limit ts x e =
-    let k = bind_some {o = kind_at ts} e in
-    let ps = bind_some {o = listed_at (part_at limit k.0.0) k.0.1} k.2 in
-    let r = bind_some {o = behind Semicolon ps.0.1} ps.2 in
+    let k = bind_ok {o = kind_at ts} e in
+    let ps = bind_ok {o = listed_at (part_at limit k.0.0) k.0.1} k.2 in
+    let r = bind_ok {o = behind Semicolon ps.0.1} ps.2 in
     there (IsItem limit) ts r.2
     (k.0.0, k.0.1, ps.0.1, kind_reads ts k.0 k.1, listed_reads (IsPart limit k.0.0) (part_at limit k.0.0) (part_reads limit k.0.0) k.0.1 ps.0 ps.1, behind_is Semicolon ps.0.1 r.0 r.1)
 
-one_item_reads : (limit : ℕ) (s : Unit {0}) (ts : List Terminal) (x : (List PartTree × Unit {0}) × List Terminal) → one_item limit s ts ≡ Some x → IsItem limit x.0.0 ts x.1
+one_item_reads : (limit : ℕ) (s : Unit {0}) (ts : List Terminal) (x : (List PartTree × Unit {0}) × List Terminal) → one_item limit s ts ≡ Ok x → IsItem limit x.0.0 ts x.1
 one_item_reads limit s ts x e =
-    let i = bind_some {o = item_at limit ts} e in
+    let i = bind_ok {o = item_at limit ts} e in
     there (λ y. IsItem limit y.0) ts i.2 (item_reads limit ts i.0 i.1)
 
 items_read : (limit : ℕ) (n : ℕ) (s : Unit {0}) (ts : List Terminal) (x : (List (List PartTree) × Unit {0}) × List Terminal) →
-    repeat_within item_next (one_item limit) n s ts ≡ Some x → AreItems limit x.0.0 ts x.1
+    repeat_within item_next (one_item limit) n s ts ≡ Ok x → AreItems limit x.0.0 ts x.1
 unfolding repeat_within
 items_read limit zero s ts x e = there (λ y. AreItems limit y.0) ts e refl
 items_read limit (suc n) s ts x e =
     ⊎_elim
     (λ yes.
-    let a = bind_some {o = one_item limit s ts} yes.1 in
-    let y = bind_some {o = repeat_within item_next (one_item limit) n a.0.0.1 a.0.1} a.2 in
+    let a = bind_ok {o = one_item limit s ts} yes.1 in
+    let y = bind_ok {o = repeat_within item_next (one_item limit) n a.0.0.1 a.0.1} a.2 in
     there (λ z. AreItems limit z.0) ts y.2 (a.0.1, one_item_reads limit s ts a.0 a.1, items_read limit n a.0.0.1 a.0.1 y.0 y.1))
     (λ no. there (λ y. AreItems limit y.0) ts no.1 refl)
     (chosen {b = item_next s ts} e)
 
-directed_reads : (d : Direction) (ts a : List Terminal) (x : Port × List Terminal) → Is (word d) ts a → directed d a ≡ Some x → IsDirected x.0 ts x.1
+directed_reads : (d : Direction) (ts a : List Terminal) (x : Port × List Terminal) → Is (word d) ts a → directed d a ≡ Ok x → IsDirected x.0 ts x.1
 directed_reads d ts a x h e =
-    let n = bind_some {o = name_at (past WireWord a)} e in
+    let n = bind_ok {o = name_at (past WireWord a)} e in
     there IsDirected ts n.2 (d, past WireWord a, refl, (a, h, past_is WireWord a), name_reads (past WireWord a) n.0 n.1)
 
 -- a port is a name alone, or one with its direction where such a one is allowed
 abbrev IsPort : Bool → Option Direction → Port → Between
 IsPort words d p ts rest = IsPlain d p ts rest ⊎ ((words ≡ true) × IsDirected p ts rest)
 
-mark_port_reads : (s : Sign) (ts : List Terminal) (x : Port × List Terminal) → (direction_of s >>= λ e. directed e ts) ≡ Some x → IsDirected x.0 (Mark s ∷ ts) x.1
+mark_port_reads : (s : Sign) (ts : List Terminal) (x : Port × List Terminal) → (or_stop Other (Mark s ∷ ts) (direction_of s) >>= λ e. directed e ts) ≡ Ok x → IsDirected x.0 (Mark s ∷ ts) x.1
 mark_port_reads InputWord ts x e = directed_reads Input (Mark InputWord ∷ ts) ts x refl e
 mark_port_reads OutputWord ts x e = directed_reads Output (Mark OutputWord ∷ ts) ts x refl e
 mark_port_reads _ ts x e = absurd (cc)
@@ -333,26 +335,26 @@ some_from : {A : Type 0} (o : Option A) → is_some o ≡ true → IsSome o
 some_from (Some x) e = refl
 some_from None e = absurd (cc)
 
-comma_port_reads : (d : Option Direction) (ts : List Terminal) (x : (Port × Option Direction) × List Terminal) → comma_port d ts ≡ Some x →
+comma_port_reads : (d : Option Direction) (ts : List Terminal) (x : (Port × Option Direction) × List Terminal) → comma_port d ts ≡ Ok x →
     (c : List Terminal) × Is (Mark Comma) ts c × IsPort (is_some d) d x.0.0 c x.1 × (x.0.1 ≡ x.0.0.direction)
 comma_port_reads d ts x e =
-    let r = bind_some {o = behind Comma ts} e in
-    let p = bind_some {o = port_at (is_some d) d r.0} r.2 in (
+    let r = bind_ok {o = behind Comma ts} e in
+    let p = bind_ok {o = port_at (is_some d) d r.0} r.2 in (
       r.0,
       behind_is Comma ts r.0 r.1,
       there (λ y. IsPort (is_some d) d y.0) r.0 p.2 (port_reads (is_some d) d r.0 p.0 p.1),
-      subst (λ (y : (Port × Option Direction) × List Terminal). y.0.1 ≡ y.0.0.direction) (some_is p.2) refl,
+      subst (λ (y : (Port × Option Direction) × List Terminal). y.0.1 ≡ y.0.0.direction) (ok_is p.2) refl,
     )
 
 ports_behind_read : (n : ℕ) (d : Option Direction) (ts : List Terminal) (x : (List Port × Option Direction) × List Terminal) →
-    repeat_within port_next comma_port n d ts ≡ Some x → ArePortsBehind d x.0.0 ts x.1
+    repeat_within port_next comma_port n d ts ≡ Ok x → ArePortsBehind d x.0.0 ts x.1
 unfolding repeat_within
 ports_behind_read zero d ts x e = there (λ y. ArePortsBehind d y.0) ts e refl
 ports_behind_read (suc n) d ts x e =
     ⊎_elim
     (λ yes.
-    let a = bind_some {o = comma_port d ts} yes.1 in
-    let y = bind_some {o = repeat_within port_next comma_port n a.0.0.1 a.0.1} a.2 in
+    let a = bind_ok {o = comma_port d ts} yes.1 in
+    let y = bind_ok {o = repeat_within port_next comma_port n a.0.0.1 a.0.1} a.2 in
     let one = comma_port_reads d ts a.0 a.1 in
     there (λ z. ArePortsBehind d z.0) ts y.2 (
       one.0,
@@ -367,24 +369,24 @@ ports_behind_read (suc n) d ts x e =
 ports_read : Reads ArePorts ports_at
 unfolding ports_at repeated
 ports_read ts x e =
-    let p = bind_some {o = port_at true None ts} e in
-    let all = bind_some {o = ahead_of (p.0.0 ∷ []) (repeated port_next comma_port p.0.0.direction p.0.1)} p.2 in
+    let p = bind_ok {o = port_at true None ts} e in
+    let all = bind_ok {o = ahead_of (p.0.0 ∷ []) (repeated port_next comma_port p.0.0.direction p.0.1)} p.2 in
     let ps = ahead_is p.0.0 (repeated port_next comma_port p.0.0.direction p.0.1) all.0 all.1 in
-    there ArePorts ts (ap (λ (w : (List Port × Option Direction) × List Terminal). let v : List Port × List Terminal = (w.0.0, w.1) in Some v) ps.2 ∙ all.2)
+    there ArePorts ts (ap (λ (w : (List Port × Option Direction) × List Terminal). let v : List Port × List Terminal = (w.0.0, w.1) in Ok v) ps.2 ∙ all.2)
     (p.0.1, ⊎_elim (λ h. inl h) (λ h. inr h.1) (port_reads true None ts p.0 p.1), ports_behind_read (length p.0.1) p.0.0.direction p.0.1 ps.0 ps.1)
 
-inner_header : List Terminal → Option (List Port × List Terminal)
+inner_header : List Terminal → Result (List Port × List Terminal) Stop
 inner_header a =
-    cond (next_is Close a) (behind Close a >>= λ r. Some ([], r)) (ports_at a >>= λ ps. behind Close ps.1 >>= λ r. Some (ps.0, r))
+    cond (next_is Close a) (behind Close a >>= λ r. Ok ([], r)) (ports_at a >>= λ ps. behind Close ps.1 >>= λ r. Ok (ps.0, r))
 
-inner_header_reads : (ts a : List Terminal) (x : List Port × List Terminal) → Is (Mark Open) ts a → inner_header a ≡ Some x → IsHeader x.0 ts x.1
+inner_header_reads : (ts a : List Terminal) (x : List Port × List Terminal) → Is (Mark Open) ts a → inner_header a ≡ Ok x → IsHeader x.0 ts x.1
 unfolding inner_header
 inner_header_reads ts a x h e =
     ⊎_elim
-    (λ yes. let r = bind_some {o = behind Close a} yes.1 in there IsHeader ts r.2 (inr (a, a, h, inl (refl, refl), behind_is Close a r.0 r.1)))
+    (λ yes. let r = bind_ok {o = behind Close a} yes.1 in there IsHeader ts r.2 (inr (a, a, h, inl (refl, refl), behind_is Close a r.0 r.1)))
     (λ no.
-    let ps = bind_some {o = ports_at a} no.1 in
-    let r = bind_some {o = behind Close ps.0.1} ps.2 in
+    let ps = bind_ok {o = ports_at a} no.1 in
+    let r = bind_ok {o = behind Close ps.0.1} ps.2 in
     there IsHeader ts r.2 (inr (a, ps.0.1, h, inr (ports_read a ps.0 ps.1), behind_is Close ps.0.1 r.0 r.1)))
     (chosen {b = next_is Close a} e)
 
@@ -392,25 +394,25 @@ header_reads : Reads IsHeader header_at
 unfolding header_at inner_header
 header_reads ts x e =
     ⊎_elim
-    (λ yes. let a = bind_some {o = behind Open ts} yes.1 in inner_header_reads ts a.0 x (behind_is Open ts a.0 a.1) a.2)
+    (λ yes. let a = bind_ok {o = behind Open ts} yes.1 in inner_header_reads ts a.0 x (behind_is Open ts a.0 a.1) a.2)
     (λ no. there IsHeader ts no.1 (inl (refl, refl)))
     (chosen {b = next_is Open ts} e)
 
-end_is : (ts rest : List Terminal) → at_end ts ≡ Some rest → ts ≡ []
+end_is : (ts rest : List Terminal) → at_end ts ≡ Ok rest → ts ≡ []
 end_is [] rest e = refl
 end_is (t ∷ ts) rest e = absurd (cc)
 
 -- What is read is a module of the grammar, from the first terminal to the last.
-pub module_reads : (limit : ℕ) (ts : List Terminal) (x : ModuleTree × List Terminal) → module_at limit ts ≡ Some x → IsModule limit x.0 ts
+pub module_reads : (limit : ℕ) (ts : List Terminal) (x : ModuleTree × List Terminal) → module_at limit ts ≡ Ok x → IsModule limit x.0 ts
 unfolding module_at repeated
 module_reads limit ts x e =
-    let a = bind_some {o = behind ModuleWord ts} e in
-    let n = bind_some {o = name_at a.0} a.2 in
-    let h = bind_some {o = header_at n.0.1} n.2 in
-    let b = bind_some {o = behind Semicolon h.0.1} h.2 in
-    let s = bind_some {o = repeated item_next (one_item limit) tt b.0} b.2 in
-    let c = bind_some {o = behind EndModule s.0.1} s.2 in
-    let d = bind_some {o = at_end c.0} c.2 in
+    let a = bind_ok {o = behind ModuleWord ts} e in
+    let n = bind_ok {o = name_at a.0} a.2 in
+    let h = bind_ok {o = header_at n.0.1} n.2 in
+    let b = bind_ok {o = behind Semicolon h.0.1} h.2 in
+    let s = bind_ok {o = repeated item_next (one_item limit) tt b.0} b.2 in
+    let c = bind_ok {o = behind EndModule s.0.1} s.2 in
+    let d = bind_ok {o = at_end c.0} c.2 in
     there (λ m ts rest. IsModule limit m ts) ts d.2
     (record {
       named = a.0;
@@ -486,18 +488,18 @@ part_shorter limit Assign (assign n e) ts rest h = wire_shorter limit n (Some e)
 part_shorter limit (Gate op) p ts rest (a, l, g) = omega (arith, label_shorter ts a l, gate_shorter limit op p a rest g)
 part_shorter limit _ _ ts rest h = absurd h
 
-pub mark_again : (s : Sign) (ts rest : List Terminal) → Is (Mark s) ts rest → behind s ts ≡ Some rest
+pub mark_again : (s : Sign) (ts rest : List Terminal) → Is (Mark s) ts rest → behind s ts ≡ Ok rest
 mark_again s ts rest e = ap (behind s) e ∙ behind_mark s rest
 
 next_again : (s : Sign) (ts rest : List Terminal) → Is (Mark s) ts rest → next_is s ts ≡ true
-next_again s ts rest e = ap is_some (mark_again s ts rest e)
+next_again s ts rest e = ap is_ok (mark_again s ts rest e)
 
-pub name_again : (n : List ℕ) (ts rest : List Terminal) → IsName n ts rest → name_at ts ≡ Some (n, rest)
+pub name_again : (n : List ℕ) (ts rest : List Terminal) → IsName n ts rest → name_at ts ≡ Ok (n, rest)
 name_again n ts rest e = ap name_at e
 
 -- What stands there is read, where something that closes it stands behind it.
 abbrev Whole : {A : Type 0} → (A → Between) → Reader A → Type 0
-Whole {A = A} IsX p = (x : A) (ts rest : List Terminal) → IsX x ts rest → Closes rest → p ts ≡ Some (x, rest)
+Whole {A = A} IsX p = (x : A) (ts rest : List Terminal) → IsX x ts rest → Closes rest → p ts ≡ Ok (x, rest)
 
 expression_again : (limit : ℕ) → Whole (IsExpr limit) (expression limit)
 unfolding expression
@@ -508,7 +510,7 @@ more_closes IsX [] ts rest e c = subst Closes (sym e) c
 more_closes IsX (x ∷ xs) ts rest (a, b, e, is, more) c = subst Closes (sym e) comma
 
 step_again : {A : Type 0} (IsX : A → Between) (p : Reader A) → Whole IsX p → (s : Unit {0}) (x : A) (ts c rest : List Terminal) → Is (Mark Comma) ts c → IsX x c rest → Closes rest →
-    comma_step p s ts ≡ Some ((x, s), rest)
+    comma_step p s ts ≡ Ok ((x, s), rest)
 step_again IsX p f s x ts c rest e is d = rw (mark_again Comma ts c e, f x c rest is d) refl
 
 pub comma_repeats : {A : Type 0} (IsX : A → Between) (p : Reader A) → Reads IsX p → Shorter IsX → Repeats comma_next (comma_step p)
@@ -520,7 +522,7 @@ comma_repeats IsX p f g = record {
 }
 
 more_again : {A : Type 0} (IsX : A → Between) (p : Reader A) → Whole IsX p → Repeats comma_next (comma_step p) → (xs : List A) (s : Unit {0}) (ts rest : List Terminal) → AreMore IsX xs ts rest → Closes rest → next_is Comma rest ≡ false →
-    repeated comma_next (comma_step p) s ts ≡ Some ((xs, s), rest)
+    repeated comma_next (comma_step p) s ts ≡ Ok ((xs, s), rest)
 more_again IsX p f h [] s ts rest e c n =
     ap (repeated comma_next (comma_step p) s) e ∙ repeated_stops comma_next (comma_step p) s rest n
 more_again IsX p f h (x ∷ xs) s ts rest (a, b, e, is, more) c n =
@@ -528,7 +530,7 @@ more_again IsX p f h (x ∷ xs) s ts rest (a, b, e, is, more) c n =
     ∙ ap (ahead_of (x ∷ [])) (more_again IsX p f h xs s b rest more c n)
 
 listed_again : {A : Type 0} (IsX : A → Between) (p : Reader A) → Whole IsX p → Repeats comma_next (comma_step p) → (xs : List A) (ts rest : List Terminal) → AreListed IsX xs ts rest → Closes rest → next_is Comma rest ≡ false →
-    listed_at p ts ≡ Some (xs, rest)
+    listed_at p ts ≡ Ok (xs, rest)
 listed_again IsX p f h [] ts rest e c n = absurd e
 listed_again IsX p f h (x ∷ xs) ts rest (a, is, more) c n =
     rw (f x ts a is (more_closes IsX xs a rest more c), more_again IsX p f h xs tt a rest more c n) refl
@@ -539,18 +541,18 @@ closes_by s ts rest c e = subst Closes (sym e) c
 pub not_comma : (s : Sign) (ts rest : List Terminal) → next_is Comma (Mark s ∷ rest) ≡ false → Is (Mark s) ts rest → next_is Comma ts ≡ false
 not_comma s ts rest c e = ap (next_is Comma) e ∙ c
 
-wire_again : (limit : ℕ) (n : List ℕ) (e : Option Tree) (ts rest : List Terminal) → IsWire limit n e ts rest → Closes rest → wire_at limit ts ≡ Some (wire n e, rest)
+wire_again : (limit : ℕ) (n : List ℕ) (e : Option Tree) (ts rest : List Terminal) → IsWire limit n e ts rest → Closes rest → wire_at limit ts ≡ Ok (wire n e, rest)
 unfolding wire_at
 wire_again limit n None ts rest h c = rw (name_again n ts rest h, no_equals c) refl
 wire_again limit n (Some e) ts rest (a, b, name, equals, expr) c =
     rw (name_again n ts a name, mark_again Equals a b equals, expression_again limit e b rest expr c) refl
 
-assign_again : (limit : ℕ) (n : List ℕ) (e : Tree) (ts rest : List Terminal) → IsWire limit n (Some e) ts rest → Closes rest → assign_at limit ts ≡ Some (assign n e, rest)
+assign_again : (limit : ℕ) (n : List ℕ) (e : Tree) (ts rest : List Terminal) → IsWire limit n (Some e) ts rest → Closes rest → assign_at limit ts ≡ Ok (assign n e, rest)
 unfolding assign_at
 assign_again limit n e ts rest (a, b, name, equals, expr) c =
     rw (name_again n ts a name, mark_again Equals a b equals, expression_again limit e b rest expr c) refl
 
-many_again : (limit : ℕ) (op : Op) (n : List ℕ) (es : List Tree) (ts d rest : List Terminal) → AreListed (IsExpr limit) es ts d → Is (Mark Close) d rest → many_at limit op n ts ≡ Some (gate op n es, d)
+many_again : (limit : ℕ) (op : Op) (n : List ℕ) (es : List Tree) (ts d rest : List Terminal) → AreListed (IsExpr limit) es ts d → Is (Mark Close) d rest → many_at limit op n ts ≡ Ok (gate op n es, d)
 unfolding many_at
 many_again limit op n es ts d rest h e =
     rw (listed_again (IsExpr limit) (expression limit) (expression_again limit) (comma_repeats (IsExpr limit) (expression limit) (expression_reads limit) (expr_shorter limit)) es ts d h
@@ -576,7 +578,7 @@ names_repeat limit = record {
   stops = λ s. refl;
 }
 
-name_step_again : (limit : ℕ) (n : List ℕ) (v : Tree) (ts c d : List Terminal) → Is (Mark Comma) ts c → IsExpr limit v c d → Closes d → name_and_expression limit (net n) ts ≡ Some ((n, v), d)
+name_step_again : (limit : ℕ) (n : List ℕ) (v : Tree) (ts c d : List Terminal) → Is (Mark Comma) ts c → IsExpr limit v c d → Closes d → name_and_expression limit (net n) ts ≡ Ok ((n, v), d)
 name_step_again limit n v ts c d e f g = rw (mark_again Comma ts c e, expression_again limit v c d f g) refl
 
 pub comma_and : (b : Bool) (ts : List Terminal) → next_is Comma ts ≡ false → next_is Comma ts && b ≡ false
@@ -586,7 +588,7 @@ both_true : (a b : Bool) → a ≡ true → b ≡ true → a && b ≡ true
 both_true a b e f = rw (e, f) refl
 
 names_again : (limit : ℕ) (t : Tree) (ns : List (List ℕ)) (u : Tree) (ts rest : List Terminal) → AreNames limit t ns u ts rest → Closes rest → next_is Comma rest ≡ false →
-    repeated comma_behind_net (name_and_expression limit) t ts ≡ Some ((ns, u), rest)
+    repeated comma_behind_net (name_and_expression limit) t ts ≡ Ok ((ns, u), rest)
 names_again limit t [] u ts rest (same, e) c n =
     rw (same, e) (repeated_stops comma_behind_net (name_and_expression limit) u rest (comma_and (is_net u) rest n))
 names_again limit t (n ∷ ns) u ts rest (v, a, b, is, e, f, g) c k =
@@ -595,7 +597,7 @@ names_again limit t (n ∷ ns) u ts rest (v, a, b, is, e, f, g) c k =
     ∙ ap (ahead_of (n ∷ [])) (names_again limit v ns u b rest g c k))
 
 few_again : (limit : ℕ) (op : Op) (n : List ℕ) (ns : List (List ℕ)) (e : Tree) (m b c d rest : List Terminal) → AreMore IsName ns m b → Is (Mark Comma) b c → IsExpr limit e c d → Is (Mark Close) d rest →
-    (i : List Terminal) × Is (Mark Comma) m i × (few_at limit op n i ≡ Some (copies op (n ∷ ns) e, d))
+    (i : List Terminal) × Is (Mark Comma) m i × (few_at limit op n i ≡ Ok (copies op (n ∷ ns) e, d))
 unfolding few_at
 few_again limit op n ns e m b c d rest more h f g =
     let r = names_from limit ns e m b c d more h f in
@@ -620,7 +622,7 @@ past_label : (ts a b : List Terminal) → IsLabel ts a → Is (Mark Open) a b �
 past_label ts a b (inl e) h = rw e (rw h refl)
 past_label ts a b (inr (n, e)) h = rw e refl
 
-gate_again : (limit : ℕ) (op : Op) (p : PartTree) (ts l rest : List Terminal) → IsLabel ts l → IsGate limit op p l rest → gate_at limit op ts ≡ Some (p, rest)
+gate_again : (limit : ℕ) (op : Op) (p : PartTree) (ts l rest : List Terminal) → IsLabel ts l → IsGate limit op p l rest → gate_at limit op ts ≡ Ok (p, rest)
 unfolding gate_at
 gate_again limit op (gate o n es) ts l rest label (same, f, g, (a, b, c, d, opens, name, h, listed, closing)) =
     rw (past_label ts l a label opens, mark_again Open l a opens, name_again n a b name, mark_again Comma b c h, connections_many limit op n c f g, many_again limit op n es c d rest listed closing, mark_again Close d rest closing, same) refl
@@ -650,14 +652,14 @@ declared_first limit d (assign n e) ts rest h = absurd h
 declared_first limit d (gate o n e) ts rest h = absurd h
 declared_first limit d (copies o n e) ts rest h = absurd h
 
-direction_word : (d : Direction) (a : List Terminal) → kind_at (word d ∷ a) ≡ Some (Declaration d, past WireWord a)
+direction_word : (d : Direction) (a : List Terminal) → kind_at (word d ∷ a) ≡ Ok (Declaration d, past WireWord a)
 direction_word Input a = refl
 direction_word Output a = refl
 
-kind_again : (limit : ℕ) (k : Kind) (p : PartTree) (ts a b : List Terminal) → IsHead k ts a → IsPart limit k p a b → kind_at ts ≡ Some (k, a)
+kind_again : (limit : ℕ) (k : Kind) (p : PartTree) (ts a b : List Terminal) → IsHead k ts a → IsPart limit k p a b → kind_at ts ≡ Ok (k, a)
 kind_again limit (Declaration d) p ts a b (c, e, o) h =
     let n = declared_first limit d p a b h in
-    rw e (direction_word d c ∙ ap (λ l. Some (Declaration d, l)) (past_optional c a b n.0 o n.1))
+    rw e (direction_word d c ∙ ap (λ (l : List Terminal). let x : Kind × List Terminal = (Declaration d, l) in Ok x) (past_optional c a b n.0 o n.1))
 kind_again limit Wire p ts a b e h = rw e refl
 kind_again limit Assign p ts a b e h = rw e refl
 kind_again limit (Gate op) p ts a b e h = rw e refl
@@ -665,7 +667,7 @@ kind_again limit (Gate op) p ts a b e h = rw e refl
 pub part_repeats : (limit : ℕ) (k : Kind) → Repeats comma_next (comma_step (part_at limit k))
 part_repeats limit k = comma_repeats (IsPart limit k) (part_at limit k) (part_reads limit k) (part_shorter limit k)
 
-item_again : (limit : ℕ) (ps : List PartTree) (ts rest : List Terminal) → IsItem limit ps ts rest → item_at limit ts ≡ Some (ps, rest)
+item_again : (limit : ℕ) (ps : List PartTree) (ts rest : List Terminal) → IsItem limit ps ts rest → item_at limit ts ≡ Ok (ps, rest)
 unfolding item_at
 item_again limit [] ts rest (k, a, b, head, listed, e) = absurd listed
 item_again limit (p ∷ ps) ts rest (k, a, b, head, (c, part, more), e) =
@@ -706,33 +708,33 @@ items_repeat limit = record {
 }
 
 pub items_again : (limit : ℕ) (s : Unit {0}) (items : List (List PartTree)) (ts rest : List Terminal) → AreItems limit items ts rest → item_next s rest ≡ false →
-    repeated item_next (one_item limit) s ts ≡ Some ((items, s), rest)
+    repeated item_next (one_item limit) s ts ≡ Ok ((items, s), rest)
 items_again limit s [] ts rest e n = ap (repeated item_next (one_item limit) s) e ∙ repeated_stops item_next (one_item limit) s rest n
 items_again limit s (i ∷ items) ts rest (a, item, more) n =
     repeated_step item_next (one_item limit) (items_repeat limit) s s i ts a (item_goes limit s i ts a item) (rw (item_again limit i ts a item) refl)
     ∙ ap (ahead_of (i ∷ [])) (items_again limit s items a rest more n)
 
-plain_again : (words : Bool) (d : Option Direction) (p : Port) (ts rest : List Terminal) → IsPlain d p ts rest → port_at words d ts ≡ Some (p, rest)
-plain_again words d p ts rest (same, name) = rw name (ap (λ e. Some (record { name = p.name; direction = e }, rest)) (sym same))
+plain_again : (words : Bool) (d : Option Direction) (p : Port) (ts rest : List Terminal) → IsPlain d p ts rest → port_at words d ts ≡ Ok (p, rest)
+plain_again words d p ts rest (same, name) = rw name (ap (λ (e : Option Direction). let x : Port × List Terminal = (record { name = p.name; direction = e }, rest) in Ok x) (sym same))
 
 word_port : (d : Option Direction) (e : Direction) (ts : List Terminal) → port_at true d (word e ∷ ts) ≡ directed e ts
 word_port d Input ts = refl
 word_port d Output ts = refl
 
-directed_again : (d : Option Direction) (p : Port) (ts rest : List Terminal) → IsDirected p ts rest → port_at true d ts ≡ Some (p, rest)
+directed_again : (d : Option Direction) (p : Port) (ts rest : List Terminal) → IsDirected p ts rest → port_at true d ts ≡ Ok (p, rest)
 directed_again d p ts rest (e, a, same, (c, h, o), name) =
-    rw h (word_port d e c ∙ rw (past_optional c a rest p.name o name, name_again p.name a rest name) (ap (λ e. Some (record { name = p.name; direction = e }, rest)) (sym same)))
+    rw h (word_port d e c ∙ rw (past_optional c a rest p.name o name, name_again p.name a rest name) (ap (λ (e : Option Direction). let x : Port × List Terminal = (record { name = p.name; direction = e }, rest) in Ok x) (sym same)))
 
 some_to : {A : Type 0} (o : Option A) → IsSome o → is_some o ≡ true
 some_to (Some x) e = refl
 some_to None e = absurd (cc)
 
-behind_port_again : (d : Option Direction) (p : Port) (ts rest : List Terminal) → (IsPlain d p ts rest ⊎ (IsSome d × IsDirected p ts rest)) → port_at (is_some d) d ts ≡ Some (p, rest)
+behind_port_again : (d : Option Direction) (p : Port) (ts rest : List Terminal) → (IsPlain d p ts rest ⊎ (IsSome d × IsDirected p ts rest)) → port_at (is_some d) d ts ≡ Ok (p, rest)
 behind_port_again d p ts rest (inl h) = plain_again (is_some d) d p ts rest h
 behind_port_again d p ts rest (inr (some, h)) = rw (some_to d some) (directed_again d p ts rest h)
 
 comma_port_again : (d : Option Direction) (p : Port) (ts c rest : List Terminal) → Is (Mark Comma) ts c → (IsPlain d p c rest ⊎ (IsSome d × IsDirected p c rest)) →
-    comma_port d ts ≡ Some ((p, p.direction), rest)
+    comma_port d ts ≡ Ok ((p, p.direction), rest)
 comma_port_again d p ts c rest e h = rw (mark_again Comma ts c e, behind_port_again d p c rest h) refl
 
 directed_shorter : (p : Port) (ts rest : List Terminal) → IsDirected p ts rest → length rest ≤ length ts
@@ -752,17 +754,17 @@ ports_repeat = record {
 }
 
 ports_behind_again : (d : Option Direction) (ps : List Port) (ts rest : List Terminal) → ArePortsBehind d ps ts rest → next_is Comma rest ≡ false →
-    (last : Option Direction) × (repeated port_next comma_port d ts ≡ Some ((ps, last), rest))
+    (last : Option Direction) × (repeated port_next comma_port d ts ≡ Ok ((ps, last), rest))
 ports_behind_again d [] ts rest e n = (d, ap (repeated port_next comma_port d) e ∙ repeated_stops port_next comma_port d rest n)
 ports_behind_again d (p ∷ ps) ts rest (a, b, e, h, more) n =
     let r = ports_behind_again p.direction ps b rest more n in
     (r.0, repeated_step port_next comma_port ports_repeat d p.direction p ts b (next_again Comma ts a e) (comma_port_again d p ts a b e h) ∙ ap (ahead_of (p ∷ [])) r.1)
 
-first_port_again : (p : Port) (ts rest : List Terminal) → (IsPlain None p ts rest ⊎ IsDirected p ts rest) → port_at true None ts ≡ Some (p, rest)
+first_port_again : (p : Port) (ts rest : List Terminal) → (IsPlain None p ts rest ⊎ IsDirected p ts rest) → port_at true None ts ≡ Ok (p, rest)
 first_port_again p ts rest (inl h) = plain_again true None p ts rest h
 first_port_again p ts rest (inr h) = directed_again None p ts rest h
 
-pub ports_again : (ps : List Port) (ts rest : List Terminal) → ArePorts ps ts rest → next_is Comma rest ≡ false → ports_at ts ≡ Some (ps, rest)
+pub ports_again : (ps : List Port) (ts rest : List Terminal) → ArePorts ps ts rest → next_is Comma rest ≡ false → ports_at ts ≡ Ok (ps, rest)
 unfolding ports_at
 ports_again [] ts rest h n = absurd h
 ports_again (p ∷ ps) ts rest (a, h, more) n =

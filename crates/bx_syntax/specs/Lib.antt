@@ -12,3 +12,5 @@ pub mod Words
 pub mod Tables
 pub mod Terminals
 pub mod Texts
+pub mod Faults
+pub mod Constructs

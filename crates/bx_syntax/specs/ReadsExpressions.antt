@@ -1,25 +1,35 @@
--- Reading an expression at the front of a list of terminals.
-use Rattle.std.specs.Prelude.{ℕ, zero, suc, nat_eq, if◌then◌else◌, List, ◌∷◌, drop, length, Option, Some, None}
+-- Reading an expression at the front of a list of terminals: the tree and the terminals behind it, or
+-- where reading stops.
+use Rattle.std.specs.Prelude.{ℕ, zero, suc, nat_eq, if◌then◌else◌, List, ◌∷◌, drop, length, Option, Some, None, Result, Ok, Err}
 use Rattle.bx_syntax.specs.declared.terminal.Terminal.{Terminal}
 use Rattle.bx_syntax.specs.declared.terminal.Terminal.TheVariants.{Mark, Name, Bit}
 use Rattle.bx_syntax.specs.declared.terminal.Mark.{Mark as Sign}
 use Rattle.bx_syntax.specs.declared.terminal.Mark.TheVariants.{Module, EndModule, Input, Output, Wire, Assign, Open, Close, Comma, Semicolon, Equals, Tilde, Ampersand, Caret, TildeCaret, Bar}
+use Rattle.bx_syntax.specs.declared.stop.Stop.{Stop}
+use Rattle.bx_syntax.specs.declared.stop.Stop.TheVariants.{Bad, Deep}
+use Rattle.bx_syntax.specs.declared.stop.Wanted.{Wanted}
+use Rattle.bx_syntax.specs.declared.stop.Wanted.TheVariants.{Primary, Other}
 use Rattle.bx_syntax.specs.declared.tree.Operator.{Operator}
 use Rattle.bx_syntax.specs.declared.tree.Operator.TheVariants.{And, Xor, Xnor, Or}
 use Rattle.bx_syntax.specs.Trees.{Tree, net, bit, inverse, group, Tail, done, link, started}
 use Rattle.bx_syntax.specs.Expressions.{rank}
 
--- what stands at the front of a list of terminals, and the terminals behind it, or nothing
+-- what stands at the front of a list of terminals, and the terminals behind it, or where reading stops
 abbrev pub Reader : Type 0 → Type 0
-Reader A = List Terminal → Option (A × List Terminal)
+Reader A = List Terminal → Result (A × List Terminal) Stop
 
 infixl 10 ◌>>=◌
-abbrev pub ◌>>=◌ : {A B : Type 0} → Option A → (A → Option B) → Option B
-(Some x) >>= f = f x
-None >>= f = None
+abbrev pub ◌>>=◌ : {A B : Type 0} → Result A Stop → (A → Result B Stop) → Result B Stop
+(Ok x) >>= f = f x
+(Err e) >>= f = Err e
 
-abbrev pub nothing : {A : Type 0} → Reader A
-nothing ts = None
+-- the terminal at the front of these, or their end, may not stand there
+abbrev pub stops : {A : Type 0} → Wanted → List Terminal → Result A Stop
+stops wanted ts = Err (Bad (length ts) wanted)
+
+-- the mark before these nests too deep
+abbrev pub too_deep : {A : Type 0} → Reader A
+too_deep ts = Err (Deep (suc (length ts)))
 
 abbrev pub operator_of : Sign → Option Operator
 operator_of Ampersand = Some And
@@ -39,15 +49,15 @@ operator_at k _ = None
 
 -- with an operator before them, an operand and further ones
 abbrev pub linked : Reader Tree → Reader Tail → Option Operator → Reader Tail
-linked operand more None ts = Some (done, ts)
+linked operand more None ts = Ok (done, ts)
 linked operand more (Some o) ts = do
   x ← operand (drop 1 ts)
   y ← more x.1
-  Some (link o x.0 y.0, y.1)
+  Ok (link o x.0 y.0, y.1)
 
 -- at most so many further operands of a level
 unfoldable pub tail_within : Reader Tree → ℕ → ℕ → Reader Tail
-tail_within operand k zero ts = Some (done, ts)
+tail_within operand k zero ts = Ok (done, ts)
 tail_within operand k (suc n) ts = linked operand (tail_within operand k n) (operator_at k ts) ts
 
 -- further operands of a level
@@ -59,7 +69,7 @@ unfoldable pub joined_at : Reader Tree → ℕ → Reader Tree
 joined_at operand k ts = do
   x ← operand ts
   y ← tail_at operand k x.1
-  Some (started x.0 y.0, y.1)
+  Ok (started x.0 y.0, y.1)
 
 unfoldable pub level_at : Reader Tree → ℕ → Reader Tree
 level_at primary zero = primary
@@ -84,39 +94,39 @@ number TildeCaret = 14
 number Bar = 15
 
 -- what stands behind a mark, if this one is at the front
-abbrev pub behind : Sign → List Terminal → Option (List Terminal)
-behind s (Mark r ∷ ts) = if nat_eq (number r) (number s) then Some ts else None
-behind s _ = None
+abbrev pub behind : Sign → List Terminal → Result (List Terminal) Stop
+behind s (Mark r ∷ ts) = if nat_eq (number r) (number s) then Ok ts else stops Other (Mark r ∷ ts)
+behind s ts = stops Other ts
 
 -- what stands behind a `~`
 abbrev pub inverse_with : Reader Tree → Reader Tree
 inverse_with primary ts = do
   x ← primary ts
-  Some (inverse x.0, x.1)
+  Ok (inverse x.0, x.1)
 
 -- what stands behind a `(`
 abbrev pub group_with : Reader Tree → Reader Tree
 group_with expr ts = do
   x ← expr ts
   rest ← behind Close x.1
-  Some (group x.0, rest)
+  Ok (group x.0, rest)
 
 -- what a mark begins
 abbrev pub nested_with : Sign → Reader Tree → Reader Tree → Reader Tree
 nested_with Tilde primary expr ts = inverse_with primary ts
 nested_with Open primary expr ts = group_with expr ts
-nested_with _ primary expr ts = None
+nested_with s primary expr ts = stops Primary (Mark s ∷ ts)
 
 -- a primary, where what nests in it is read so
 abbrev pub primary_with : Reader Tree → Reader Tree → Reader Tree
-primary_with primary expr (Name n ∷ ts) = Some (net n, ts)
-primary_with primary expr (Bit b ∷ ts) = Some (bit b, ts)
+primary_with primary expr (Name n ∷ ts) = Ok (net n, ts)
+primary_with primary expr (Bit b ∷ ts) = Ok (bit b, ts)
 primary_with primary expr (Mark s ∷ ts) = nested_with s primary expr ts
-primary_with primary expr _ = None
+primary_with primary expr ts = stops Primary ts
 
 -- A primary in which nothing nests deeper than this.
 unfoldable pub primary_at : ℕ → Reader Tree
-primary_at zero ts = primary_with nothing nothing ts
+primary_at zero ts = primary_with too_deep too_deep ts
 primary_at (suc depth) ts = primary_with (primary_at depth) (level_at (primary_at depth) 3) ts
 
 -- An expression in which nothing nests deeper than this.
@@ -125,9 +135,9 @@ expr_at depth = level_at (primary_at depth) 3
 
 -- the same behind a `~` and a `(`
 abbrev pub inverse_at : ℕ → Reader Tree
-inverse_at zero ts = None
+inverse_at zero ts = too_deep ts
 inverse_at (suc depth) ts = inverse_with (primary_at depth) ts
 
 abbrev pub group_at : ℕ → Reader Tree
-group_at zero ts = None
+group_at zero ts = too_deep ts
 group_at (suc depth) ts = group_with (expr_at depth) ts

@@ -1,5 +1,5 @@
--- Reading a module, from its first terminal to its last.
-use Rattle.std.specs.Prelude.{ℕ, Bool, true, false, not, ◌&&◌, if◌then◌else◌, List, [], ◌∷◌, Option, Some, None}
+-- Reading a module, from its first terminal to its last, or where reading stops.
+use Rattle.std.specs.Prelude.{ℕ, Bool, true, false, not, ◌&&◌, if◌then◌else◌, List, [], ◌∷◌, Option, Some, None, Result, Ok, is_ok}
 use Rattle.std.specs.Option.{is_some}
 use Rattle.bx_logic.specs.declared.op.Op.{Op}
 use Rattle.bx_logic.specs.declared.op.Op.TheVariants.{Buf, Not}
@@ -7,6 +7,9 @@ use Rattle.bx_syntax.specs.declared.terminal.Terminal.{Terminal}
 use Rattle.bx_syntax.specs.declared.terminal.Terminal.TheVariants.{Mark, Gate as GateWord, Name}
 use Rattle.bx_syntax.specs.declared.terminal.Mark.{Mark as Sign}
 use Rattle.bx_syntax.specs.declared.terminal.Mark.TheVariants.{Module as ModuleWord, EndModule, Input as InputWord, Output as OutputWord, Wire as WireWord, Assign as AssignWord, Open, Close, Comma, Semicolon, Equals}
+use Rattle.bx_syntax.specs.declared.stop.Stop.{Stop}
+use Rattle.bx_syntax.specs.declared.stop.Wanted.{Wanted}
+use Rattle.bx_syntax.specs.declared.stop.Wanted.TheVariants.{Item, End, Other}
 use Rattle.bx_syntax.specs.declared.tree.Direction.{Direction}
 use Rattle.bx_syntax.specs.declared.tree.Direction.TheVariants.{Input, Output}
 use Rattle.bx_syntax.specs.declared.tree.Port.{Port}
@@ -14,15 +17,20 @@ use Rattle.bx_syntax.specs.declared.part.Kind.{Kind}
 use Rattle.bx_syntax.specs.declared.part.Kind.TheVariants.{Declaration, Wire, Assign, Gate}
 use Rattle.bx_syntax.specs.Trees.{Tree, net}
 use Rattle.bx_syntax.specs.Parts.{PartTree, declaration, wire, assign, gate, copies, ModuleTree}
-use Rattle.bx_syntax.specs.ReadsExpressions.{Reader, ◌>>=◌, behind, expr_at}
+use Rattle.bx_syntax.specs.ReadsExpressions.{Reader, ◌>>=◌, stops, behind, expr_at}
 use Rattle.bx_syntax.specs.Repeats.{repeated, ahead_of}
 
+-- what a terminal says, or a stop before it
+abbrev pub or_stop : {A : Type 0} → Wanted → List Terminal → Option A → Result A Stop
+or_stop wanted ts (Some x) = Ok x
+or_stop wanted ts None = stops wanted ts
+
 abbrev pub next_is : Sign → List Terminal → Bool
-next_is s ts = is_some (behind s ts)
+next_is s ts = is_ok (behind s ts)
 
 abbrev pub name_at : Reader (List ℕ)
-name_at (Name n ∷ ts) = Some (n, ts)
-name_at _ = None
+name_at (Name n ∷ ts) = Ok (n, ts)
+name_at ts = stops Other ts
 
 -- the same list, or what stands behind its first terminal if this one is a mark, or a name
 abbrev pub past : Sign → List Terminal → List Terminal
@@ -38,11 +46,11 @@ comma_next s ts = next_is Comma ts
 
 -- behind a comma, what is read so
 abbrev pub comma_step : {A : Type 0} → Reader A → Unit {0} → Reader (A × Unit {0})
-comma_step p s ts = behind Comma ts >>= λ r. p r >>= λ x. Some ((x.0, s), x.1)
+comma_step p s ts = behind Comma ts >>= λ r. p r >>= λ x. Ok ((x.0, s), x.1)
 
 -- x { ',' x }
 abbrev pub listed_at : {A : Type 0} → Reader A → Reader (List A)
-listed_at p ts = p ts >>= λ x. ahead_of (x.0 ∷ []) (repeated comma_next (comma_step p) tt x.1) >>= λ y. Some (y.0.0, y.1)
+listed_at p ts = p ts >>= λ x. ahead_of (x.0 ∷ []) (repeated comma_next (comma_step p) tt x.1) >>= λ y. Ok (y.0.0, y.1)
 
 abbrev pub is_net : Tree → Bool
 is_net (net n) = true
@@ -70,9 +78,9 @@ past_wire (Declaration d) ts = past WireWord ts
 past_wire _ ts = ts
 
 abbrev pub kind_at : Reader Kind
-kind_at (GateWord op ∷ ts) = Some (Gate op, ts)
-kind_at (Mark s ∷ ts) = kind_of s >>= λ k. Some (k, past_wire k ts)
-kind_at _ = None
+kind_at (GateWord op ∷ ts) = Ok (Gate op, ts)
+kind_at (Mark s ∷ ts) = or_stop Item (Mark s ∷ ts) (kind_of s) >>= λ k. Ok (k, past_wire k ts)
+kind_at ts = stops Item ts
 
 abbrev pub item_next : Unit {0} → List Terminal → Bool
 item_next s [] = false
@@ -80,7 +88,7 @@ item_next s (t ∷ ts) = not (next_is EndModule (t ∷ ts))
 
 -- a port: a name alone has the direction of the port before it, if that one has a direction
 abbrev pub directed : Direction → Reader Port
-directed d ts = name_at (past WireWord ts) >>= λ n. Some (record { name = n.0; direction = Some d }, n.1)
+directed d ts = name_at (past WireWord ts) >>= λ n. Ok (record { name = n.0; direction = Some d }, n.1)
 
 abbrev pub direction_of : Sign → Option Direction
 direction_of InputWord = Some Input
@@ -88,12 +96,12 @@ direction_of OutputWord = Some Output
 direction_of _ = None
 
 abbrev pub port_at : Bool → Option Direction → Reader Port
-port_at words d (Name n ∷ ts) = Some (record { name = n; direction = d }, ts)
-port_at words d (Mark s ∷ ts) = if words then (direction_of s >>= λ e. directed e ts) else None
-port_at words d _ = None
+port_at words d (Name n ∷ ts) = Ok (record { name = n; direction = d }, ts)
+port_at words d (Mark s ∷ ts) = if words then (or_stop Other (Mark s ∷ ts) (direction_of s) >>= λ e. directed e ts) else stops Other (Mark s ∷ ts)
+port_at words d ts = stops Other ts
 
 abbrev pub comma_port : Option Direction → Reader (Port × Option Direction)
-comma_port d ts = behind Comma ts >>= λ r. port_at (is_some d) d r >>= λ p. Some ((p.0, p.0.direction), p.1)
+comma_port d ts = behind Comma ts >>= λ r. port_at (is_some d) d r >>= λ p. Ok ((p.0, p.0.direction), p.1)
 
 abbrev pub port_next : Option Direction → List Terminal → Bool
 port_next d ts = next_is Comma ts
@@ -102,19 +110,19 @@ unfoldable pub ports_at : Reader (List Port)
 ports_at ts = do
   p ← port_at true None ts
   ps ← ahead_of (p.0 ∷ []) (repeated port_next comma_port p.0.direction p.1)
-  Some (ps.0.0, ps.1)
+  Ok (ps.0.0, ps.1)
 
 unfoldable pub header_at : Reader (List Port)
 header_at ts =
     if next_is Open ts
     then (behind Open ts >>= λ a.
-    if next_is Close a then (behind Close a >>= λ r. Some ([], r))
-    else (ports_at a >>= λ ps. behind Close ps.1 >>= λ r. Some (ps.0, r)))
-    else Some ([], ts)
+    if next_is Close a then (behind Close a >>= λ r. Ok ([], r))
+    else (ports_at a >>= λ ps. behind Close ps.1 >>= λ r. Ok (ps.0, r)))
+    else Ok ([], ts)
 
-abbrev pub at_end : List Terminal → Option (List Terminal)
-at_end [] = Some []
-at_end _ = None
+abbrev pub at_end : List Terminal → Result (List Terminal) Stop
+at_end [] = Ok []
+at_end (t ∷ ts) = stops End (t ∷ ts)
 
 module _ (limit : ℕ) where
   -- an expression in which nothing nests deeper than the limit
@@ -125,29 +133,29 @@ module _ (limit : ℕ) where
   wire_at ts = do
     n ← name_at ts
     if next_is Equals n.1
-        then (behind Equals n.1 >>= λ r. expression r >>= λ e. Some (wire n.0 (Some e.0), e.1))
-        else Some (wire n.0 None, n.1)
+        then (behind Equals n.1 >>= λ r. expression r >>= λ e. Ok (wire n.0 (Some e.0), e.1))
+        else Ok (wire n.0 None, n.1)
 
   unfoldable pub assign_at : Reader PartTree
   assign_at ts = do
     n ← name_at ts
     r ← behind Equals n.1
     e ← expression r
-    Some (assign n.0 e.0, e.1)
+    Ok (assign n.0 e.0, e.1)
 
   unfoldable pub many_at : Op → List ℕ → Reader PartTree
   many_at op n ts = do
     es ← listed_at expression ts
-    Some (gate op n es.0, es.1)
+    Ok (gate op n es.0, es.1)
 
   abbrev pub name_and_expression : Tree → Reader (List ℕ × Tree)
-  name_and_expression t ts = behind Comma ts >>= λ r. expression r >>= λ e. Some ((net_name t, e.0), e.1)
+  name_and_expression t ts = behind Comma ts >>= λ r. expression r >>= λ e. Ok ((net_name t, e.0), e.1)
 
   unfoldable pub few_at : Op → List ℕ → Reader PartTree
   few_at op n ts = do
     e ← expression ts
     es ← ahead_of (n ∷ []) (repeated comma_behind_net name_and_expression e.0 e.1)
-    Some (copies op es.0.0 es.0.1, es.1)
+    Ok (copies op es.0.0 es.0.1, es.1)
 
   abbrev pub connections_at : Op → List ℕ → Reader PartTree
   connections_at Buf n ts = few_at Buf n ts
@@ -161,10 +169,10 @@ module _ (limit : ℕ) where
     b ← behind Comma n.1
     c ← connections_at op n.0 b
     d ← behind Close c.1
-    Some (c.0, d)
+    Ok (c.0, d)
 
   abbrev pub part_at : Kind → Reader PartTree
-  part_at (Declaration d) ts = name_at ts >>= λ n. Some (declaration d n.0, n.1)
+  part_at (Declaration d) ts = name_at ts >>= λ n. Ok (declaration d n.0, n.1)
   part_at Wire ts = wire_at ts
   part_at Assign ts = assign_at ts
   part_at (Gate op) ts = gate_at op ts
@@ -174,10 +182,10 @@ module _ (limit : ℕ) where
     k ← kind_at ts
     ps ← listed_at (part_at k.0) k.1
     r ← behind Semicolon ps.1
-    Some (ps.0, r)
+    Ok (ps.0, r)
 
   abbrev pub one_item : Unit {0} → Reader (List PartTree × Unit {0})
-  one_item s ts = item_at ts >>= λ x. Some ((x.0, s), x.1)
+  one_item s ts = item_at ts >>= λ x. Ok ((x.0, s), x.1)
 
   -- a module and nothing behind it
   unfoldable pub module_at : Reader ModuleTree
@@ -189,4 +197,4 @@ module _ (limit : ℕ) where
     s ← repeated item_next one_item tt b
     c ← behind EndModule s.1
     d ← at_end c
-    Some (record { name = n.0; ports = h.0; items = s.0.0 }, d)
+    Ok (record { name = n.0; ports = h.0; items = s.0.0 }, d)

@@ -1,5 +1,5 @@
 //! The reader of expressions. It recurses at `~` and `(` alone, and no deeper than it is told.
-ghost use Rattle.std.specs.Prelude.{◌≡◌, ◌∷◌, IfOk, IfErr};
+ghost use Rattle.std.specs.Prelude.{◌≡◌, ◌∷◌, suc, length, IfOk, IfErr};
 ghost use Rattle.bx_syntax.specs.Trees.{tree, tail, joined};
 ghost use Rattle.bx_syntax.specs.ReadsExpressions.{primary_at, level_at, tail_at, joined_at, inverse_at, group_at};
 ghost use Rattle.bx_syntax.specs.ReadsModules.{expression};
@@ -119,6 +119,7 @@ fn primary_from(
     left: usize,
     depth: u32,
 ) -> Result<Expr, Stop>
+    requires { left ≡ suc (length terminals.old.items) }
     ensures { Gives tree terminals.new.items result (primary_at depth (front ∷ terminals.old.items)) }
 {
     match front {
@@ -140,6 +141,7 @@ fn nested(
     left: usize,
     depth: u32,
 ) -> Result<Expr, Stop>
+    requires { left ≡ suc (length terminals.old.items) }
     ensures { Gives tree terminals.new.items result (primary_at depth (Terminal.Mark mark ∷ terminals.old.items)) }
 {
     match mark {
@@ -157,6 +159,7 @@ fn inverse(
     left: usize,
     depth: u32,
 ) -> Result<Expr, Stop>
+    requires { left ≡ suc (length terminals.old.items) }
     ensures { Gives tree terminals.new.items result (inverse_at depth terminals.old.items) }
 {
     let inner = depth.checked_sub(1).ok_or(Stop::Deep(left))?;
@@ -172,6 +175,7 @@ fn group(
     left: usize,
     depth: u32,
 ) -> Result<Expr, Stop>
+    requires { left ≡ suc (length terminals.old.items) }
     ensures { Gives tree terminals.new.items result (group_at depth terminals.old.items) }
 {
     let inner = depth.checked_sub(1).ok_or(Stop::Deep(left))?;

@@ -1,4 +1,5 @@
-//! Why a text is refused as a module. Which reason a text has is for the reader to say.
+//! Why a text is refused as a module. Which reason a text has is for the definitions to say, and for the
+//! reader to answer.
 
 /// A construct of the language that the profile doesn't take.
 #[derive(Clone, Copy, Debug, PartialEq, Eq)]

@@ -1,5 +1,5 @@
 //! The reader of a module's header: its ports, in their order.
-ghost use Rattle.std.specs.Prelude.{◌≡◌, [], ◌∷◌, None};
+ghost use Rattle.std.specs.Prelude.{◌≡◌, suc, [], ◌∷◌, length, None};
 ghost use Rattle.bx_syntax.specs.Repeats.{repeated, ahead_of};
 ghost use Rattle.bx_syntax.specs.ReadsModules.{direction_of, directed, port_at, port_next, comma_port, ports_at, header_at};
 ghost use Rattle.bx_syntax.specs.Gives.{Gives, GivesSome};
@@ -90,6 +90,7 @@ fn port_from(
     words: bool,
     direction: Option<Direction>,
 ) -> Result<Port, Stop>
+    requires { left ≡ suc (length terminals.old.items) }
     ensures { Gives (λ p. p) terminals.new.items result (port_at words direction (front ∷ terminals.old.items)) }
 {
     match front {

@@ -1,5 +1,5 @@
 //! The reader of a module's items.
-ghost use Rattle.std.specs.Prelude.{◌≡◌, [], ◌∷◌, map};
+ghost use Rattle.std.specs.Prelude.{◌≡◌, suc, [], ◌∷◌, length, map};
 ghost use Rattle.bx_syntax.specs.Parts.{part, parts};
 ghost use Rattle.bx_syntax.specs.Repeats.{repeated, ahead_of};
 ghost use Rattle.bx_syntax.specs.ReadsModules.{comma_next, comma_step, part_at, kind_of, kind_at, item_at, item_next, one_item};
@@ -86,6 +86,7 @@ fn kind(terminals: &mut VecDeque<Terminal>) -> Result<Kind, Stop>
 
 // The kind of item that a terminal begins, where it stands before so many.
 fn kind_from(terminals: &mut VecDeque<Terminal>, front: Terminal, left: usize) -> Result<Kind, Stop>
+    requires { left ≡ suc (length terminals.old.items) }
     ensures { Gives (λ k. k) terminals.new.items result (kind_at (front ∷ terminals.old.items)) }
 {
     match front {
@@ -97,6 +98,7 @@ fn kind_from(terminals: &mut VecDeque<Terminal>, front: Terminal, left: usize) -
 
 // The kind of item that a mark begins, where it stands before so many terminals.
 fn kind_at_mark(terminals: &mut VecDeque<Terminal>, mark: Mark, left: usize) -> Result<Kind, Stop>
+    requires { left ≡ suc (length terminals.old.items) }
     ensures { Gives (λ k. k) terminals.new.items result (kind_at (Terminal.Mark mark ∷ terminals.old.items)) }
 {
     let Some(kind) = kind_of(mark) else {

@@ -1,5 +1,5 @@
 //! Laws of the definitions that the contracts cite. Nothing here runs.
-ghost use Rattle.std.specs.Prelude.{◌≡◌, ◌<◌, ◌≤◌, ◌^◌, ◌↔◌, ℕ, List, Contains, codes, length};
+ghost use Rattle.std.specs.Prelude.{◌≡◌, ◌<◌, ◌≤◌, ◌^◌, ◌↔◌, ◌⊎◌, ℕ, List, Contains, codes, length};
 ghost use Rattle.bx_logic.specs.declared.op.Op.TheVariants.{Buf, Not, And, Or, Nand, Nor, Xor, Xnor};
 ghost use Rattle.bx_syntax.specs.declared.terminal.Mark.TheVariants.{Module, EndModule, Input, Output, Wire, Assign};
 ghost use Rattle.bx_syntax.specs.declared.terminal.Terminal.{Terminal};
@@ -8,6 +8,10 @@ ghost use Rattle.bx_syntax.specs.Words.{refused_words, reserved_words, word_term
 ghost use Rattle.bx_syntax.specs.Parts.{ModuleTree};
 ghost use Rattle.bx_syntax.specs.Sizes.{module_size};
 ghost use Rattle.bx_syntax.specs.Grammar.{IsModule};
+ghost use Rattle.bx_syntax.specs.declared.fault.ReadFault.{ReadFault};
+ghost use Rattle.bx_lex.specs.Tokens.{TokenList};
+ghost use Rattle.bx_syntax.specs.Terminals.{terminals_of};
+ghost use Rattle.bx_syntax.specs.Faults.{Stops, HasReadFault};
 ghost use Rattle.bx_syntax.specs.Texts.{IsTree};
 
 /// A list of terminals has at most one tree, however deep it may nest.
@@ -38,4 +42,16 @@ pub fn a_module_is_no_larger_than_its_text()
 /// A module that is the tree of some text has fewer than 2 ^ 32 names, operators and bits.
 pub fn a_module_is_small()
     ensures { (m : ModuleTree) → IsTree m → module_size m < 2 ^ 32 }
+{}
+
+/// Tokens have a tree or a fault, never both, and one fault.
+pub fn tokens_have_a_tree_or_a_fault()
+    ensures some { (text : List ℕ) (found : TokenList) → ((m : ModuleTree) × IsModule 256 m (terminals_of text found.tokens)) ⊎ ((f : ReadFault) × HasReadFault text found f) }
+    ensures either { (text : List ℕ) (found : TokenList) (m : ModuleTree) (f : ReadFault) → HasReadFault text found f → IsModule 256 m (terminals_of text found.tokens) → ⊥ }
+    ensures one { (text : List ℕ) (found : TokenList) (f g : ReadFault) → HasReadFault text found f → HasReadFault text found g → f ≡ g }
+{}
+
+/// The first bad place of a list of terminals is one.
+pub fn terminals_stop_at_one_place()
+    ensures { (limit : ℕ) (ts : List Terminal) (j k : ℕ) → Stops limit ts j → Stops limit ts k → j ≡ k }
 {}

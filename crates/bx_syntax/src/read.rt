@@ -1,16 +1,20 @@
-//! The reader of modules: the tree of a text's tokens, or why there is none. Which fault it is and
-//! where is as the reader of terminals stops; the contract says no more of it than that it is one.
-ghost use Rattle.std.specs.Prelude.{◌≡◌, ◌≢◌, ◌<◌, ◌≤◌, ◌^◌, ◌↔◌, length, IfSome, IfOk, MatchResult};
+//! The reader of modules: the tree of a text's tokens, or why there is none. What is answered, and where,
+//! is what the grammar says of the tokens, whatever way it is read.
+ghost use Rattle.std.specs.Prelude.{◌≡◌, ◌≢◌, ◌+◌, ◌<◌, ◌≤◌, ◌^◌, ℕ, length, slice_get, IfSome, IfOk, IfErr, MatchResult, Err};
 ghost use Rattle.bx_lex.specs.Tokens.{HasTokens};
 ghost use Rattle.bx_syntax.specs.Parts.{ModuleTree};
 ghost use Rattle.bx_syntax.specs.Terminals.{terminals_of};
 ghost use Rattle.bx_syntax.specs.Grammar.{IsModule};
+ghost use Rattle.bx_syntax.specs.ReadsModules.{module_at};
+ghost use Rattle.bx_syntax.specs.Constructs.{construct_behind, fault_with};
+ghost use Rattle.bx_syntax.specs.Faults.{place_of, HasReadFault};
+ghost use Rattle.bx_syntax.specs.declared.fault.ReadFault.{ReadFault as Fault};
 
 use crate::construct::construct;
 use crate::fault::{Construct, ReadFault};
 use crate::module::module;
 use crate::stop::{Stop, Wanted};
-use crate::terminals::terminals;
+use crate::terminals::{terminal, terminals};
 use crate::tree::Module;
 use bx_lex::{Token, Tokens, laws};
 use std::alloc::Global;
@@ -28,58 +32,90 @@ pub fn read_module(alloc: Global, text: &[u8], tokens: &Tokens) -> Result<Module
     // Where the tokens have such a tree it is answered, unless memory runs out.
     ensures only { (m : ModuleTree) → IsModule 256 m (terminals_of text.now tokens.now.tokens) →
         MatchResult result (λ x. x ≡ m) (λ e. e ≡ ReadFault.NoMemory) }
+    // The fault that is answered is that of the tokens: what the first bad one is, and its place.
+    ensures faults { IfErr result (λ f. f ≢ ReadFault.NoMemory → HasReadFault text.now tokens.now f) }
+    // Where the tokens have such a fault it is answered, unless memory runs out.
+    ensures exact { (f : Fault) → HasReadFault text.now tokens.now f → result ≢ Err ReadFault.NoMemory → result ≡ Err f }
 {
     laws::tokens_stand_in_order();
     match tree_of(alloc, text, tokens) {
         Ok(module) => Ok(module),
-        Err(stop) => Err(fault_of(text, tokens, stop)),
+        Err(stop) => Err(fault_of(alloc, text, tokens, stop)),
     }
 }
 
-// The tree of a text's tokens.
+// The tree of a text's tokens, or where reading them stops.
 fn tree_of(alloc: Global, text: &[u8], tokens: &Tokens) -> Result<Module, Stop>
     requires whole { tokens.now.end ≡ length text.now }
     requires few { length tokens.now.tokens < 2 ^ 32 }
     ensures found { IfOk result (λ m. IsModule 256 m (terminals_of text.now tokens.now.tokens)) }
     ensures only { (m : ModuleTree) → IsModule 256 m (terminals_of text.now tokens.now.tokens) →
         MatchResult result (λ x. x ≡ m) (λ e. e ≡ Stop.NoMemory) }
+    ensures stops { IfErr result (λ e. e ≢ Stop.NoMemory → module_at 256 (terminals_of text.now tokens.now.tokens) ≡ Err e) }
 {
     let mut terminals = terminals(alloc, text, tokens)?;
     module(alloc, &mut terminals)
 }
 
 // The fault of a text whose reader stops so.
-fn fault_of(text: &[u8], tokens: &Tokens, stop: Stop) -> ReadFault
-    requires { tokens.now.end ≡ length text.now }
-    ensures { result ≡ ReadFault.NoMemory ↔ stop ≡ Stop.NoMemory }
+fn fault_of(alloc: Global, text: &[u8], tokens: &Tokens, stop: Stop) -> ReadFault
+    requires whole { tokens.now.end ≡ length text.now }
+    requires stops { stop ≢ Stop.NoMemory → module_at 256 (terminals_of text.now tokens.now.tokens) ≡ Err stop }
+    ensures memory { stop ≡ Stop.NoMemory → result ≡ ReadFault.NoMemory }
+    ensures fault { result ≢ ReadFault.NoMemory → HasReadFault text.now tokens.now result }
 {
     match stop {
         Stop::NoMemory => ReadFault::NoMemory,
-        Stop::Bad(left, wanted) => fault_at(text, tokens, left, wanted),
-        Stop::Deep(left) => match token_at(tokens, left) {
-            Some(token) => ReadFault::TooDeep(token.start),
-            None => ReadFault::TooDeep(tokens.end()),
+        Stop::Bad(left, wanted) => match construct_at(alloc, text, tokens, left, wanted) {
+            Ok(construct) => fault_with(place(tokens, left), construct),
+            Err(_) => ReadFault::NoMemory,
         },
+        Stop::Deep(left) => ReadFault::TooDeep(place(tokens, left)),
     }
 }
 
-// The fault of a text whose reader stops before so many tokens.
-fn fault_at(text: &[u8], tokens: &Tokens, left: usize, wanted: Wanted) -> ReadFault
+// The fault at a place where a terminal stands of this construct, if it is of one.
+fn fault_with(place: u64, construct: Option<Construct>) -> ReadFault
+    ensures { result ≡ fault_with place construct }
+{
+    match construct {
+        Some(construct) => ReadFault::NotTaken(place, construct),
+        None => ReadFault::Syntax(place),
+    }
+}
+
+// The construct of the terminal before which so many are left, where something else was wanted.
+fn construct_at(
+    alloc: Global,
+    text: &[u8],
+    tokens: &Tokens,
+    left: usize,
+    wanted: Wanted,
+) -> Result<Option<Construct>, Stop>
     requires { tokens.now.end ≡ length text.now }
-    ensures { result ≢ ReadFault.NoMemory }
+    ensures { IfOk result (λ c. (k : ℕ) → left + k ≡ length tokens.now.tokens → c ≡ construct_behind wanted (slice_get (terminals_of text.now tokens.now.tokens) k)) }
 {
     let Some(token) = token_at(tokens, left) else {
-        return ReadFault::Syntax(tokens.end());
+        return Ok(None);
     };
-    match construct(text, token, wanted) {
-        Some(construct) => ReadFault::NotTaken(token.start, construct),
-        None => ReadFault::Syntax(token.start),
+    let terminal = terminal(alloc, text, token)?;
+    Ok(construct(&terminal, wanted))
+}
+
+// The place of the token before which so many are left, or the end of the text.
+fn place(tokens: &Tokens, left: usize) -> u64
+    ensures { (k : ℕ) → left + k ≡ length tokens.now.tokens → result ≡ place_of tokens.now k }
+{
+    match token_at(tokens, left) {
+        Some(token) => token.start,
+        None => tokens.end(),
     }
 }
 
 // The token before which so many tokens are left, if there are so many and one at all.
 fn token_at(tokens: &Tokens, left: usize) -> Option<Token>
-    ensures { IfSome result (λ t. (t.start < t.end) × (t.end ≤ tokens.now.end)) }
+    ensures token { (k : ℕ) → left + k ≡ length tokens.now.tokens → result ≡ slice_get tokens.now.tokens k }
+    ensures inside { IfSome result (λ t. (t.start < t.end) × (t.end ≤ tokens.now.end)) }
 {
     let k = tokens.len().checked_sub(left as u64)?;
     (k < tokens.len()).then(|| tokens.token(k))

@@ -30,6 +30,7 @@ struct Nested {
     open: &'static str,
     close: &'static str,
     count: u32,
+    inner: &'static str,
     behind: &'static str,
 }
 
@@ -41,7 +42,7 @@ impl Nested {
         for _ in 0..self.count {
             text.push_str(self.open)?;
         }
-        text.push_str("a")?;
+        text.push_str(self.inner)?;
         for _ in 0..self.count {
             text.push_str(self.close)?;
         }
@@ -139,9 +140,16 @@ fn refused_behind_the_head(rt: HostRuntime) -> Result<(), Fail> {
 
 #[test]
 fn refused(rt: HostRuntime) -> Result<(), Fail> {
-    let table: [(&str, ReadFault); 11] = [
+    let table: [(&str, ReadFault); 15] = [
         ("", ReadFault::Syntax(0)),
         ("foo", ReadFault::Syntax(0)),
+        ("module m;\n", ReadFault::Syntax(10)),
+        ("module m(a, 1);", ReadFault::Syntax(12)),
+        (
+            "module m; endmodule\nmodule",
+            ReadFault::NotTaken(20, Construct::Second),
+        ),
+        ("module m; module", ReadFault::Syntax(10)),
         ("always", ReadFault::NotTaken(0, Construct::Reserved)),
         ("module m(a,);", ReadFault::Syntax(11)),
         (
@@ -178,6 +186,7 @@ fn nesting(rt: HostRuntime) -> Result<(), Fail> {
         open,
         close,
         count,
+        inner: "a",
         behind: ";",
     };
     let argument = |count| Nested {
@@ -185,9 +194,10 @@ fn nesting(rt: HostRuntime) -> Result<(), Fail> {
         open: "(",
         close: ")",
         count,
+        inner: "a",
         behind: ", a);",
     };
-    let table: [(Nested, Option<ReadFault>); 10] = [
+    let table: [(Nested, Option<ReadFault>); 13] = [
         (assigned("~", "", 256), None),
         (assigned("~", "", 257), Some(ReadFault::TooDeep(302))),
         (assigned("(", ")", 256), None),
@@ -209,6 +219,28 @@ fn nesting(rt: HostRuntime) -> Result<(), Fail> {
                 ..assigned("~", "", 257)
             },
             Some(ReadFault::Syntax(48)),
+        ),
+        (
+            Nested {
+                inner: "2'b10",
+                ..assigned("~", "", 256)
+            },
+            Some(ReadFault::NotTaken(302, Construct::Number)),
+        ),
+        (
+            Nested {
+                inner: "",
+                behind: "endmodule",
+                ..assigned("~", "", 256)
+            },
+            Some(ReadFault::Syntax(302)),
+        ),
+        (
+            Nested {
+                inner: "(a)",
+                ..assigned("~", "", 256)
+            },
+            Some(ReadFault::TooDeep(302)),
         ),
     ];
     for (nested, wanted) in &table {

@@ -1,6 +1,7 @@
 //! Where a reader of terminals stops: at the first that the grammar doesn't go on with. The reader
 //! commits to one continuation at each terminal and never goes back behind one, so this is the place
-//! of the bad token. Which construct that token is, is left to the one who has the text.
+//! of the bad token. Which construct that token is, is left to the one who has the text, and that nothing
+//! else begins a module there to the proofs.
 ghost use Rattle.std.specs.Prelude.{◌≡◌};
 ghost use Rattle.bx_syntax.specs.declared.stop.Stop.TheVariants.{NoMemory as OutOfMemory};
 

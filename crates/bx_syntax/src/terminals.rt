@@ -37,7 +37,7 @@ pub(crate) fn terminals(
 
 // The terminal of a token.
 #[tactic(auto, unfolding(crate::specs::Terminals::terminal_of))]
-fn terminal(alloc: Global, text: &[u8], token: Token) -> Result<Terminal, Stop>
+pub(crate) fn terminal(alloc: Global, text: &[u8], token: Token) -> Result<Terminal, Stop>
     requires order { token.start < token.end }
     requires inside { token.end ≤ length text.now }
     ensures found { IfOk result (λ t. t ≡ terminal_of text.now token) }
@@ -64,7 +64,7 @@ fn word_terminal(alloc: Global, bytes: &[u8]) -> Result<Terminal, Stop>
 }
 
 // The place of a word in the table of reserved words.
-pub(crate) fn place_of(word: &[u8], words: &[&str]) -> Option<usize>
+fn place_of(word: &[u8], words: &[&str]) -> Option<usize>
     ensures { result ≡ position (λ w. bytes_eq word.now w.now) words.now }
 {
     words.iter().position(|w| word == w.as_bytes())

@@ -1,9 +1,10 @@
-use Rattle.std.proofs.Common.{◌∷◌, sym, ap, ◌∙◌, arith}
+use Rattle.std.proofs.Common.{◌≡◌, ◌∷◌, length, rules, sym, ap, ◌∙◌, arith}
 use Rattle.std.proofs.lemmas.Result.{err_from_is_err_and}
 use Rattle.bx_syntax.specs.declared.terminal.Terminal.TheVariants.{Mark}
+use Rattle.bx_syntax.specs.declared.stop.Wanted.TheVariants.{Primary}
 use Rattle.bx_syntax.specs.Trees.{tree}
 use Rattle.bx_syntax.specs.ReadsExpressions.{primary_at}
-use Rattle.bx_syntax.proofs.ReadsExpressions.{joined_one, joined_second_fails, joined_more_fails, joined_all, gives_tree, primary_tilde, primary_open, primary_empty, primary_mark, primary_neither, primary_name, primary_bit, fails_too, gives_same, level_none, level_some, operands_fail, operands_go_on, operands_end, operands_shrink, shrinks, tail-push}
+use Rattle.bx_syntax.proofs.ReadsExpressions.{stopped_here, joined_one, joined_second_fails, joined_more_fails, joined_all, gives_tree, primary_tilde, primary_open, primary_empty, primary_mark, primary_neither, primary_name, primary_bit, fails_too, gives_same, level_none, level_some, operands_fail, operands_go_on, operands_end, operands_shrink, shrinks, tail-push}
 use Rattle.bx_syntax.proofs.expression.+expressions.Goals as goal
 
 pub level-returns-in-None : goal.level-returns-in-None
@@ -23,10 +24,13 @@ nested-returns-in-Open t c =
     (sym (ap (λ m. primary_at c.args.depth (Mark m ∷ c.args.terminals.now.items)) c.in-Open.is ∙ primary_open _ _)) c.group.ensures
 
 pub nested-returns-in_default : goal.nested-returns-in_default
-nested-returns-in_default t c = primary_mark _ _ _ c.in_default.not-Tilde c.in_default.not-Open
+nested-returns-in_default t c = stopped_here Primary (Mark c.args.mark ∷ c.args.terminals.now.items) c.args.left _ c.requires (primary_mark _ _ _ c.in_default.not-Tilde c.in_default.not-Open)
 
 pub primary-returns-in_default : goal.primary-returns-in_default
-primary-returns-in_default t c = rw c.in_default.ensures.none (primary_empty _)
+primary-returns-in_default t c =
+    let none = c.in_default.ensures.none in
+    let same : c.len-left.result ≡ length c.args.terminals.now.items = search rules in
+    stopped_here Primary c.args.terminals.now.items c.len-left.result (primary_at c.args.depth c.args.terminals.now.items) same (rw none (primary_empty c.args.depth))
 
 pub primary-returns : goal.primary-returns
 primary-returns t c = gives_same tree _ c.primary_from.result _ _ (ap (primary_at c.args.depth) (sym c.in-Some.ensures.taken)) c.primary_from.ensures
@@ -38,7 +42,7 @@ pub primary_from-returns-in-Bit : goal.primary_from-returns-in-Bit
 primary_from-returns-in-Bit t c = rw c.in-Bit.is (primary_bit _ _ _)
 
 pub primary_from-returns-in-Gate : goal.primary_from-returns-in-Gate
-primary_from-returns-in-Gate t c = primary_neither _ _ _ c.in-Gate.is
+primary_from-returns-in-Gate t c = stopped_here Primary (c.args.front ∷ c.args.terminals.now.items) c.args.left _ c.requires (primary_neither _ _ _ c.in-Gate.is)
 
 pub operands-returns-in_err-expr : goal.operands-returns-in_err-expr
 operands-returns-in_err-expr t c =

@@ -12,7 +12,7 @@ pub returns-in_err-item : goal.returns-in_err-item
 returns-in_err-item c =
     let p = err_from_is_err_and c.from_residual.result c.from_residual.ensures.1 in
     rw (p.1, p.2) (fails_too _ _ _ c.in_err-item.ensures
-    (λ none. loop_fails item_next (one_item 256) (items_repeat 256) tt _ c.more.terminals.items _ (sym c.item_next.ensures ∙ c.more-test.true) c.more.invariant (item_step_fails 256 _ none)))
+    (λ w none. loop_fails item_next (one_item 256) (items_repeat 256) tt _ c.more.terminals.items _ (sym c.item_next.ensures ∙ c.more-test.true) c.more.invariant w (item_step_fails 256 _ w none)))
 
 pub more-smaller : goal.more-smaller
 more-smaller c = (items_repeat 256).less tt _ ((_, tt), _) (item_step 256 _ _ _ c.in_ok-item.ensures)

@@ -16,9 +16,9 @@ pub returns-in_err-last : goal.returns-in_err-last
 returns-in_err-last c =
     let p = err_from_is_err_and c.from_residual-in_err-last.result c.from_residual-in_err-last.ensures.1 in
     rw (p.1, p.2) (fails_too _ _ _ c.in_err-last.ensures
-    (λ none. loop_fails comma_behind_net (name_and_expression 256) (names_repeat 256) (tree c.more.last) _ _ _
-    (names_go _ _ c.more.terminals.items (net_tree c.more.last c.in-Net.name c.in-Net.is) (sym c.next_is.ensures ∙ c.more-test.true)) c.more.invariant
-    (name_step_fails 256 (tree c.more.last) c.more.terminals.items none)))
+    (λ w none. loop_fails comma_behind_net (name_and_expression 256) (names_repeat 256) (tree c.more.last) _ _ _
+    (names_go _ _ c.more.terminals.items (net_tree c.more.last c.in-Net.name c.in-Net.is) (sym c.next_is.ensures ∙ c.more-test.true)) c.more.invariant w
+    (name_step_fails 256 (tree c.more.last) c.more.terminals.items w none)))
 
 pub more-smaller : goal.more-smaller
 more-smaller c =

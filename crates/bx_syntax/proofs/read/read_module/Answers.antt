@@ -1,5 +1,6 @@
-use Rattle.std.proofs.Common.{arith}
+use Rattle.std.proofs.Common.{Ok, Err, arith}
 use Rattle.bx_syntax.proofs.Sizes.{spans_fit}
+use Rattle.bx_syntax.proofs.Faults.{answered}
 use Rattle.bx_syntax.proofs.read.read_module.Goals as goal
 
 pub tree_of-requires-clause-whole : goal.tree_of-requires-clause-whole
@@ -15,7 +16,13 @@ tree_of-requires-clause-few c =
     )
 
 pub fault_of-requires : goal.fault_of-requires
-fault_of-requires c = c.tokens_stand_in_order.ensures.whole _ _ c.requires.of_text
+fault_of-requires c = record { whole = c.tokens_stand_in_order.ensures.whole _ _ c.requires.of_text; stops = c.in-Err.ensures.stops }
 
 pub returns-in-Err-clause-only : goal.returns-in-Err-clause-only
-returns-in-Err-clause-only c m is = c.fault_of.ensures.1 (c.in-Err.ensures.only m is)
+returns-in-Err-clause-only c m is = c.fault_of.ensures.memory (c.in-Err.ensures.only m is)
+
+pub returns-in-Err-clause-exact : goal.returns-in-Err-clause-exact
+returns-in-Err-clause-exact c = λ f is given. answered c.args.text.now c.args.tokens.now (Err c.fault_of.result) (λ m. m) tt c.fault_of.ensures.fault f is given
+
+pub returns-in-Ok-clause-exact : goal.returns-in-Ok-clause-exact
+returns-in-Ok-clause-exact c = λ f is given. answered c.args.text.now c.args.tokens.now (Ok c.in-Ok.module) (λ m. m) c.in-Ok.ensures.found tt f is given

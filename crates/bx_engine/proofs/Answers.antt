@@ -1,5 +1,5 @@
--- What an input gives is one answer, but for which fault of reading a refusal names.
-use Rattle.std.proofs.Common.{◌≡◌, ℕ, List, Option, Some, None, sym, ◌∙◌, ap, subst, refl, inl, inr}
+-- What an input gives is one answer.
+use Rattle.std.proofs.Common.{◌≡◌, ℕ, List, Option, Some, None, sym, ◌∙◌, ap, subst, refl}
 use Rattle.std.specs.Prelude.{String, option_and_then}
 use Rattle.bx_desk.specs.Desk.{Files}
 use Rattle.bx_syntax.specs.Parts.{ModuleTree}
@@ -11,13 +11,12 @@ use Rattle.bx_engine.specs.declared.status.Status.TheVariants.{Found, Refused}
 use Rattle.bx_engine.specs.Columns.{column}
 use Rattle.bx_engine.specs.Reports.{report_of}
 use Rattle.bx_engine.specs.Texts.{refusal_text, input_fault_text}
-use Rattle.bx_engine.specs.Runs.{net_word, net_text, IsRefused, IsLaidOut, HasText, AreAlike, AreAlikeAnswers, IsAnswer, no_command, refused, laid_out}
-use Rattle.bx_engine.proofs.Readings.{refused_alike, not_both, one_layout}
+use Rattle.bx_engine.specs.Runs.{net_word, net_text, IsRefused, IsLaidOut, HasText, IsAnswer, no_command, refused, laid_out}
+use Rattle.bx_engine.proofs.Readings.{refused_once, not_both, one_layout}
 
--- refusals for faults that are alike are alike
-alike_refusals : (f g : InputFault) → AreAlike f g → AreAlikeAnswers (Refused f) (refusal_text (input_fault_text f)) (Refused g) (refusal_text (input_fault_text g))
-alike_refusals f g (inl same) = inl (ap Refused same, ap (λ (x : InputFault). refusal_text (input_fault_text x)) same)
-alike_refusals f g (inr both) = inr both
+-- refusals for one fault are one
+one_refusal : (f g : InputFault) → f ≡ g → (Refused f ≡ Refused g) × (refusal_text (input_fault_text f) ≡ refusal_text (input_fault_text g))
+one_refusal f g same = (ap Refused same, ap (λ (x : InputFault). refusal_text (input_fault_text x)) same)
 
 module _ {A : Type 0} (words : List (String A)) (told : Option Files) where
   pub one_answer_of_words : (s t : Status) (x y : Text) → net_word words ≡ None → IsAnswer words told s x → IsAnswer words told t y → (s ≡ t) × (x ≡ y)
@@ -36,11 +35,11 @@ module _ {A : Type 0} (words : List (String A)) (told : Option Files) where
     pub of_this : (P : Text → Type 0) (other : Text) → HasText words told other → P other → P text
     of_this P other has p = subst P (sym (has text e)) p
 
-    pub one_answer_of_text : (s t : Status) (x y : Text) → IsAnswer words told s x → IsAnswer words told t y → AreAlikeAnswers s x t y
+    pub one_answer_of_text : (s t : Status) (x y : Text) → IsAnswer words told s x → IsAnswer words told t y → (s ≡ t) × (x ≡ y)
     one_answer_of_text _ _ _ _ (no_command none) b = absurd (no_text text none e)
     one_answer_of_text _ _ _ _ (refused net u f named there has is) (no_command none) = absurd (no_text text none e)
     one_answer_of_text _ _ _ _ (refused net u f named there has is) (refused net' v g named' there' has' is') =
-        alike_refusals f g (refused_alike text f g (of_this (λ t. IsRefused t f) u has is) (of_this (λ t. IsRefused t g) v has' is'))
+        one_refusal f g (refused_once text f g (of_this (λ t. IsRefused t f) u has is) (of_this (λ t. IsRefused t g) v has' is'))
     one_answer_of_text _ _ _ _ (refused net u f named there has is) (laid_out net' v m k named' there' has' is') =
         absurd (not_both text m k f (of_this (λ t. IsLaidOut t m k) v has' is') (of_this (λ t. IsRefused t f) u has is))
     one_answer_of_text _ _ _ _ (laid_out net u m j named there has is) (no_command none) = absurd (no_text text none e)
@@ -48,4 +47,4 @@ module _ {A : Type 0} (words : List (String A)) (told : Option Files) where
         absurd (not_both text m j f (of_this (λ t. IsLaidOut t m j) u has is) (of_this (λ t. IsRefused t f) v has' is'))
     one_answer_of_text _ _ _ _ (laid_out net u m j named there has is) (laid_out net' v n k named' there' has' is') =
         let same = one_layout text m n j k (of_this (λ t. IsLaidOut t m j) u has is) (of_this (λ t. IsLaidOut t n k) v has' is') in
-        inl (ap (λ (i : ℕ). Found (column i).ratio) same.1, ap (λ (t : ModuleTree). report_of (net_of t) j) same.0 ∙ ap (report_of (net_of n)) same.1)
+        (ap (λ (i : ℕ). Found (column i).ratio) same.1, ap (λ (t : ModuleTree). report_of (net_of t) j) same.0 ∙ ap (report_of (net_of n)) same.1)

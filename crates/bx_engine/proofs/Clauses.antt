@@ -1,5 +1,5 @@
 -- What each clause of a run says, from how the run ended.
-use Rattle.std.proofs.Common.{◌≡◌, ℕ, List, Option, Some, None, sym, ◌∙◌, ap, subst, refl}
+use Rattle.std.proofs.Common.{◌≡◌, ℕ, List, Option, Some, None, sym, ◌∙◌, ap, subst}
 use Rattle.std.specs.Prelude.{String}
 use Rattle.bx_desk.specs.Desk.{Files, Counts, Adds, AddsFront}
 use Rattle.bx_syntax.specs.Parts.{ModuleTree}
@@ -15,10 +15,10 @@ use Rattle.bx_engine.specs.Statuses.{IsSettled}
 use Rattle.bx_engine.specs.ChainNetworks.{chain_network}
 use Rattle.bx_engine.specs.Columns.{column}
 use Rattle.bx_engine.specs.Reports.{report_of}
-use Rattle.bx_engine.specs.Runs.{net_word, net_text, IsRefused, AreAlike, IsLaidOut, IsLayout, IsThere, IsAnswer, no_command, refused as refused_for, laid_out}
+use Rattle.bx_engine.specs.Runs.{net_word, net_text, IsRefused, IsLaidOut, IsLayout, IsThere, IsAnswer, no_command, refused as refused_for, laid_out}
 use Rattle.bx_engine.specs.Serves.{Outcome, answered, unsaid, unread, no_memory}
 use Rattle.bx_engine.proofs.Answers.{no_text, of_this}
-use Rattle.bx_engine.proofs.Readings.{refused_alike, not_both, one_layout}
+use Rattle.bx_engine.proofs.Readings.{refused_once, not_both, one_layout}
 use Rattle.bx_engine.proofs.Modules.{laid_out_is}
 
 module _ {A : Type 0} (words : List (String A)) (told : Option Files) (s0 s1 : Option (List ℕ)) (before now : Counts) where
@@ -39,10 +39,10 @@ module _ {A : Type 0} (words : List (String A)) (told : Option Files) (s0 s1 : O
   refused_only _ (unread net named same rose) fault e text t = cc
   refused_only _ (no_memory same) fault e text t = cc
 
-  pub refused : (r : Status) → Outcome words told s0 s1 before now r → IsSettled r → (text : Text) → net_text words told ≡ Some text → (fault : InputFault) → IsRefused text fault → (answer : InputFault) × (r ≡ Refused answer) × AreAlike answer fault
+  pub refused : (r : Status) → Outcome words told s0 s1 before now r → IsSettled r → (text : Text) → net_text words told ≡ Some text → (fault : InputFault) → IsRefused text fault → r ≡ Refused fault
   refused _ (answered _ _ (no_command none) adds) settled text t fault h = absurd (no_text words told text none t)
   refused _ (answered _ _ (refused_for net u f named there has is) adds) settled text t fault h =
-      (f, refl, refused_alike text f fault (of_this words told text t (λ x. IsRefused x f) u has is) h)
+      ap Refused (refused_once text f fault (of_this words told text t (λ x. IsRefused x f) u has is) h)
   refused _ (answered _ _ (laid_out net u m k named there has is) adds) settled text t fault h =
       absurd (not_both text m k fault (of_this words told text t (λ x. IsLaidOut x m k) u has is) h)
   refused _ (unsaid _ _ a front rose) settled text t fault h = absurd settled

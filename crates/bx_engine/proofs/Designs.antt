@@ -6,8 +6,7 @@ use Rattle.bx_lex.specs.Tokens.{TokenList, HasTokens}
 use Rattle.bx_syntax.specs.declared.fault.ReadFault.{ReadFault}
 use Rattle.bx_syntax.specs.declared.fault.ReadFault.TheVariants.{Syntax, NotTaken, TooDeep, NoMemory as ReadNoMemory}
 use Rattle.bx_syntax.specs.Parts.{ModuleTree}
-use Rattle.bx_syntax.specs.Terminals.{terminals_of}
-use Rattle.bx_syntax.specs.Grammar.{IsModule}
+use Rattle.bx_syntax.specs.Faults.{HasReadFault}
 use Rattle.bx_verilog.specs.declared.fault.NetFault.{NetFault}
 use Rattle.bx_verilog.specs.declared.fault.NetFault.TheVariants.{BadPort, NoOutput, TwoDrivers, NoDriver, Cycle, NoMemory as NetNoMemory}
 use Rattle.bx_verilog.specs.Formulas.{Text}
@@ -22,12 +21,11 @@ ends_so text (Ok v) end h t = tt
 ends_so text (Err e) end h t = subst (TextEnds text) (sym h) t
 
 module _ (text : Text) (short : IsShort text) where
-  pub read_ends : (found : TokenList) (fault : ReadFault) → HasTokens text found → ((m : ModuleTree) → IsModule 256 m (terminals_of text found.tokens) → fault ≡ ReadNoMemory)
-      → TextEnds text (read_end fault)
-  read_ends found (Syntax place) tokens only = (short, record { found = found; tokens = tokens; no_module = λ m is. let lost = only m is in cc }, λ e. cc)
-  read_ends found (NotTaken place construct) tokens only = (short, record { found = found; tokens = tokens; no_module = λ m is. let lost = only m is in cc }, λ e. cc)
-  read_ends found (TooDeep place) tokens only = (short, record { found = found; tokens = tokens; no_module = λ m is. let lost = only m is in cc }, λ e. cc)
-  read_ends found ReadNoMemory tokens only = tt
+  pub read_ends : (found : TokenList) (fault : ReadFault) → HasTokens text found → (fault ≢ ReadNoMemory → HasReadFault text found fault) → TextEnds text (read_end fault)
+  read_ends found (Syntax place) tokens first = (short, record { found = found; tokens = tokens; has = first (λ e. cc) })
+  read_ends found (NotTaken place construct) tokens first = (short, record { found = found; tokens = tokens; has = first (λ e. cc) })
+  read_ends found (TooDeep place) tokens first = (short, record { found = found; tokens = tokens; has = first (λ e. cc) })
+  read_ends found ReadNoMemory tokens first = tt
 
   pub net_ends : (m : ModuleTree) (fault : NetFault) → IsText text m → (fault ≢ NetNoMemory → IsFault m fault) → TextEnds text (net_end fault)
   net_ends m (BadPort name) is first = (short, (m, is, first (λ e. cc)))

@@ -1,6 +1,6 @@
 -- Each text is refused for some fault, or laid out in some way. The walk from a net is told by recursion on
 -- what the net costs: each net of the walk costs less than the one before it.
-use Rattle.std.proofs.Common.{◌≡◌, ℕ, zero, suc, ◌<◌, ◌≤◌, ◌⊎◌, inl, inr, List, [], ◌∷◌, length, map, Option, None, Some, Result, Ok, Err, refl, sym, ◌∙◌, ap, subst, arith}
+use Rattle.std.proofs.Common.{◌≡◌, ℕ, zero, suc, ◌<◌, ◌≤◌, ◌⊎◌, inl, inr, List, [], ◌∷◌, length, map, Result, Ok, Err, refl, sym, ◌∙◌, ap, subst, arith}
 use Rattle.std.specs.Prelude.{slice_index}
 use Rattle.std.proofs.lemmas.Bool.{cases_lt}
 use Rattle.bx_logic.specs.declared.op.Op.TheVariants.{Buf, Not}
@@ -11,13 +11,12 @@ use Rattle.bx_logic.proofs.Valuations.{cost, cost-is, net-reads_within}
 use Rattle.bx_lex.specs.declared.token.LexFault.{LexFault}
 use Rattle.bx_lex.specs.Tokens.{TokenList, HasTokens, Reads}
 use Rattle.bx_lex.proofs.Readings.{some_reading}
-use Rattle.bx_syntax.specs.declared.fault.ReadFault.TheVariants.{Syntax}
-use Rattle.bx_syntax.specs.declared.terminal.Terminal.{Terminal}
+use Rattle.bx_syntax.specs.declared.fault.ReadFault.{ReadFault}
 use Rattle.bx_syntax.specs.Parts.{ModuleTree}
-use Rattle.bx_syntax.specs.ReadsModules.{module_at}
 use Rattle.bx_syntax.specs.Terminals.{terminals_of}
-use Rattle.bx_syntax.proofs.ModuleSteps.{module_again}
-use Rattle.bx_syntax.proofs.ReadsModules.{module_reads}
+use Rattle.bx_syntax.specs.Grammar.{IsModule}
+use Rattle.bx_syntax.specs.Faults.{HasReadFault}
+use Rattle.bx_syntax.proofs.Faults.{tree_or_fault}
 use Rattle.bx_verilog.specs.declared.fault.NetFault.{NetFault}
 use Rattle.bx_verilog.specs.Formulas.{Text}
 use Rattle.bx_verilog.specs.Elaboration.{net_of, Elaborates}
@@ -107,19 +106,16 @@ module _ (text : Text) where
           | no none ↦ inl (NotBuilt, (short, record { tree = m; is_text = is_text; accepted = accepted; no_chain = λ k is. none (k, is) }))
         ]
 
-    by_module : (found : TokenList) → HasTokens text found → (o : Option (ModuleTree × List Terminal)) → module_at 256 (terminals_of text found.tokens) ≡ o → HasAnswer
-    by_module found tokens None e = inl (
-      Read (Syntax 0),
-      (short, record { found = found; tokens = tokens; no_module = λ m is. let read = module_again 256 m (terminals_of text found.tokens) is in cc }, λ same. cc),
-    )
-    by_module found tokens (Some x) e =
-        let is_text : IsText text x.0 = record { found = found; tokens = tokens; is_module = module_reads 256 (terminals_of text found.tokens) x e } in
-        let means = meaning x.0 in
-        by_meaning x.0 is_text means.0 means.1
+    by_tokens : (found : TokenList) → HasTokens text found → ((m : ModuleTree) × IsModule 256 m (terminals_of text found.tokens)) ⊎ ((f : ReadFault) × HasReadFault text found f) → HasAnswer
+    by_tokens found tokens (inr (f, has)) = inl (Read f, (short, record { found = found; tokens = tokens; has = has }))
+    by_tokens found tokens (inl (m, is)) =
+        let is_text : IsText text m = record { found = found; tokens = tokens; is_module = is } in
+        let means = meaning m in
+        by_meaning m is_text means.0 means.1
 
     by_reading : (r : Result TokenList LexFault) → Reads text r → HasAnswer
     by_reading (Err fault) has = inl (Lex fault, (short, has))
-    by_reading (Ok found) tokens = by_module found tokens (module_at 256 (terminals_of text found.tokens)) refl
+    by_reading (Ok found) tokens = by_tokens found tokens (tree_or_fault text found)
 
   pub each_text : HasAnswer
   each_text = elim (cases_lt 1048576 (length text)) [

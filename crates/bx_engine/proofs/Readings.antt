@@ -1,12 +1,14 @@
--- A text is refused for one fault, but for which fault of reading it is, or laid out in one way, and
--- never both.
-use Rattle.std.proofs.Common.{◌≡◌, ℕ, Ok, Err, refl, sym, ◌∙◌, ap, subst, arith, inl, inr}
+-- A text is refused for one fault, or laid out in one way, and never both.
+use Rattle.std.proofs.Common.{◌≡◌, ℕ, Ok, Err, refl, sym, ◌∙◌, ap, subst, arith}
 use Rattle.bx_lex.specs.declared.token.LexFault.{LexFault}
 use Rattle.bx_lex.specs.Tokens.{TokenList, HasTokens, HasFault}
 use Rattle.bx_lex.proofs.Readings.{one_reading}
+use Rattle.bx_syntax.specs.declared.fault.ReadFault.{ReadFault}
 use Rattle.bx_syntax.specs.Parts.{ModuleTree}
 use Rattle.bx_syntax.specs.Terminals.{terminals_of}
 use Rattle.bx_syntax.specs.Grammar.{IsModule}
+use Rattle.bx_syntax.specs.Faults.{HasReadFault}
+use Rattle.bx_syntax.proofs.Faults.{one_fault as one_fault_of, no_fault as no_fault_of}
 use Rattle.bx_syntax.proofs.ModuleSteps.{module_once}
 use Rattle.bx_verilog.specs.declared.fault.NetFault.{NetFault}
 use Rattle.bx_verilog.specs.Formulas.{Text}
@@ -16,7 +18,7 @@ use Rattle.bx_verilog.proofs.OneMeaning.{one-meaning}
 use Rattle.bx_engine.specs.declared.status.InputFault.{InputFault}
 use Rattle.bx_engine.specs.declared.status.InputFault.TheVariants.{TooLong, Lex, Read, Net, NotBuilt}
 use Rattle.bx_engine.specs.Chains.{IsChain}
-use Rattle.bx_engine.specs.Runs.{IsText, IsNoModule, IsNotBuilt, IsRefused, IsLaidOut, AreAlike}
+use Rattle.bx_engine.specs.Runs.{IsText, IsUnread, IsNotBuilt, IsRefused, IsLaidOut}
 use Rattle.bx_engine.proofs.Chains.{one_number}
 
 module _ (text : Text) where
@@ -34,8 +36,15 @@ module _ (text : Text) where
       module_once 256 256 m n (terminals_of text a.found.tokens) a.is_module
       (subst (λ (l : TokenList). IsModule 256 n (terminals_of text l.tokens)) (one_list b.found a.found b.tokens a.tokens) b.is_module)
 
-  some_text : (m : ModuleTree) → IsText text m → IsNoModule text → ⊥
-  some_text m a b = b.no_module m (subst (λ (l : TokenList). IsModule 256 m (terminals_of text l.tokens)) (one_list a.found b.found a.tokens b.tokens) a.is_module)
+  some_text : (m : ModuleTree) (f : ReadFault) → IsText text m → IsUnread text f → ⊥
+  some_text m f a b =
+      no_fault_of 256 (terminals_of text b.found.tokens) b.found f m b.has
+      (subst (λ (l : TokenList). IsModule 256 m (terminals_of text l.tokens)) (one_list a.found b.found a.tokens b.tokens) a.is_module)
+
+  one_read_fault : (f g : ReadFault) → IsUnread text f → IsUnread text g → f ≡ g
+  one_read_fault f g a b =
+      one_fault_of 256 (terminals_of text b.found.tokens) b.found f g
+      (subst (λ (l : TokenList). HasReadFault text l f) (one_list a.found b.found a.tokens b.tokens) a.has) b.has
 
 one_fault : (m : ModuleTree) (f g : NetFault) → IsFault m f → IsFault m g → f ≡ g
 one_fault m f g a b = let same = one-meaning m (Err f) (Err g) a b in cc
@@ -54,37 +63,37 @@ module _ (text : Text) where
   text_chain : (m : ModuleTree) (k : ℕ) → IsText text m → IsChain (net_of m) k → IsNotBuilt text → ⊥
   text_chain m k a x b = b.no_chain k (subst (λ (t : ModuleTree). IsChain (net_of t) k) (one_text text m b.tree a b.is_text) x)
 
-  pub refused_alike : (f g : InputFault) → IsRefused text f → IsRefused text g → AreAlike f g
-  refused_alike (TooLong v) (TooLong w) (e, l) (f, m) = inl (ap TooLong (e ∙ sym f))
-  refused_alike (TooLong v) (Lex g) (e, l) (s, y) = absurd (omega arith)
-  refused_alike (TooLong v) (Read g) (e, l) (s, y, z) = absurd (omega arith)
-  refused_alike (TooLong v) (Net g) (e, l) (s, y) = absurd (omega arith)
-  refused_alike (TooLong v) NotBuilt (e, l) (s, y) = absurd (omega arith)
-  refused_alike (Lex f) (TooLong w) (s, x) (e, l) = absurd (omega arith)
-  refused_alike (Lex f) (Lex g) (s, x) (r, y) = inl (ap Lex (one_lex_fault text f g x y))
-  refused_alike (Lex f) (Read g) (s, x) (r, y, z) = absurd (no_tokens text y.found f y.tokens x)
-  refused_alike (Lex f) (Net g) (s, x) (r, (n, y, z)) = absurd (no_tokens text y.found f y.tokens x)
-  refused_alike (Lex f) NotBuilt (s, x) (r, y) = absurd (no_tokens text y.is_text.found f y.is_text.tokens x)
-  refused_alike (Read f) (TooLong w) (s, x, u) (e, l) = absurd (omega arith)
-  refused_alike (Read f) (Lex g) (s, x, u) (r, y) = absurd (no_tokens text x.found g x.tokens y)
-  refused_alike (Read f) (Read g) (s, x, u) (r, y, z) = inr (tt, tt)
-  refused_alike (Read f) (Net g) (s, x, u) (r, (n, y, z)) = absurd (some_text text n y x)
-  refused_alike (Read f) NotBuilt (s, x, u) (r, y) = absurd (some_text text y.tree y.is_text x)
-  refused_alike (Net f) (TooLong w) (s, (m, x, u)) (e, l) = absurd (omega arith)
-  refused_alike (Net f) (Lex g) (s, (m, x, u)) (r, y) = absurd (no_tokens text x.found g x.tokens y)
-  refused_alike (Net f) (Read g) (s, (m, x, u)) (r, y, z) = absurd (some_text text m x y)
-  refused_alike (Net f) (Net g) (s, (m, x, u)) (r, (n, y, z)) = inl (ap Net (text_fault m n f g x y u z))
-  refused_alike (Net f) NotBuilt (s, (m, x, u)) (r, y) = absurd (text_no_fault y.tree m f y.is_text x y.accepted u)
-  refused_alike NotBuilt (TooLong w) (s, x) (e, l) = absurd (omega arith)
-  refused_alike NotBuilt (Lex g) (s, x) (r, y) = absurd (no_tokens text x.is_text.found g x.is_text.tokens y)
-  refused_alike NotBuilt (Read g) (s, x) (r, y, z) = absurd (some_text text x.tree x.is_text y)
-  refused_alike NotBuilt (Net g) (s, x) (r, (n, y, z)) = absurd (text_no_fault x.tree n g x.is_text y x.accepted z)
-  refused_alike NotBuilt NotBuilt (s, x) (r, y) = inl refl
+  pub refused_once : (f g : InputFault) → IsRefused text f → IsRefused text g → f ≡ g
+  refused_once (TooLong v) (TooLong w) (e, l) (f, m) = ap TooLong (e ∙ sym f)
+  refused_once (TooLong v) (Lex g) (e, l) (s, y) = absurd (omega arith)
+  refused_once (TooLong v) (Read g) (e, l) (s, y) = absurd (omega arith)
+  refused_once (TooLong v) (Net g) (e, l) (s, y) = absurd (omega arith)
+  refused_once (TooLong v) NotBuilt (e, l) (s, y) = absurd (omega arith)
+  refused_once (Lex f) (TooLong w) (s, x) (e, l) = absurd (omega arith)
+  refused_once (Lex f) (Lex g) (s, x) (r, y) = ap Lex (one_lex_fault text f g x y)
+  refused_once (Lex f) (Read g) (s, x) (r, y) = absurd (no_tokens text y.found f y.tokens x)
+  refused_once (Lex f) (Net g) (s, x) (r, (n, y, z)) = absurd (no_tokens text y.found f y.tokens x)
+  refused_once (Lex f) NotBuilt (s, x) (r, y) = absurd (no_tokens text y.is_text.found f y.is_text.tokens x)
+  refused_once (Read f) (TooLong w) (s, x) (e, l) = absurd (omega arith)
+  refused_once (Read f) (Lex g) (s, x) (r, y) = absurd (no_tokens text x.found g x.tokens y)
+  refused_once (Read f) (Read g) (s, x) (r, y) = ap Read (one_read_fault text f g x y)
+  refused_once (Read f) (Net g) (s, x) (r, (n, y, z)) = absurd (some_text text n f y x)
+  refused_once (Read f) NotBuilt (s, x) (r, y) = absurd (some_text text y.tree f y.is_text x)
+  refused_once (Net f) (TooLong w) (s, (m, x, u)) (e, l) = absurd (omega arith)
+  refused_once (Net f) (Lex g) (s, (m, x, u)) (r, y) = absurd (no_tokens text x.found g x.tokens y)
+  refused_once (Net f) (Read g) (s, (m, x, u)) (r, y) = absurd (some_text text m g x y)
+  refused_once (Net f) (Net g) (s, (m, x, u)) (r, (n, y, z)) = ap Net (text_fault m n f g x y u z)
+  refused_once (Net f) NotBuilt (s, (m, x, u)) (r, y) = absurd (text_no_fault y.tree m f y.is_text x y.accepted u)
+  refused_once NotBuilt (TooLong w) (s, x) (e, l) = absurd (omega arith)
+  refused_once NotBuilt (Lex g) (s, x) (r, y) = absurd (no_tokens text x.is_text.found g x.is_text.tokens y)
+  refused_once NotBuilt (Read g) (s, x) (r, y) = absurd (some_text text x.tree g x.is_text y)
+  refused_once NotBuilt (Net g) (s, x) (r, (n, y, z)) = absurd (text_no_fault x.tree n g x.is_text y x.accepted z)
+  refused_once NotBuilt NotBuilt (s, x) (r, y) = refl
 
   pub not_both : (m : ModuleTree) (k : ℕ) (f : InputFault) → IsLaidOut text m k → IsRefused text f → ⊥
   not_both m k (TooLong w) is (e, l) = let short = is.short in omega arith
   not_both m k (Lex f) is (s, x) = no_tokens text is.is_text.found f is.is_text.tokens x
-  not_both m k (Read f) is (s, x, u) = some_text text m is.is_text x
+  not_both m k (Read f) is (s, x) = some_text text m f is.is_text x
   not_both m k (Net f) is (s, (n, x, u)) = text_no_fault m n f is.is_text x is.accepted u
   not_both m k NotBuilt is (s, x) = text_chain m k is.is_text is.chain x
 

@@ -1,14 +1,15 @@
 -- What a run is told: its words, and the text that the desk tells to be the file that they name. And what
 -- that text gives: a refusal, or a layout.
-use Rattle.std.specs.Prelude.{◌≡◌, ◌≢◌, ℕ, ◌<◌, ◌≤◌, List, [], ◌∷◌, codes, length, ◌⊎◌, Option, Some, None, IsSome, IfSome, option_and_then, if◌then◌else◌, String, string_bytes, ⊤}
+use Rattle.std.specs.Prelude.{◌≡◌, ℕ, ◌<◌, ◌≤◌, List, [], ◌∷◌, codes, length, Option, Some, None, IsSome, IfSome, option_and_then, if◌then◌else◌, String, string_bytes}
 use Rattle.std.specs.Str.{bytes_eq}
 use Rattle.bx_logic.specs.Nets.{Netlist}
 use Rattle.bx_desk.specs.Desk.{Files}
 use Rattle.bx_lex.specs.Tokens.{TokenList, HasTokens, HasFault}
-use Rattle.bx_syntax.specs.declared.fault.ReadFault.TheVariants.{NoMemory}
+use Rattle.bx_syntax.specs.declared.fault.ReadFault.{ReadFault}
 use Rattle.bx_syntax.specs.Parts.{ModuleTree}
 use Rattle.bx_syntax.specs.Terminals.{terminals_of}
 use Rattle.bx_syntax.specs.Grammar.{IsModule}
+use Rattle.bx_syntax.specs.Faults.{HasReadFault}
 use Rattle.bx_verilog.specs.Formulas.{Text}
 use Rattle.bx_verilog.specs.Faults.{IsAccepted, IsFault}
 use Rattle.bx_verilog.specs.Equations.{Module}
@@ -54,11 +55,11 @@ pub record IsText (text : Text) (m : ModuleTree) : Type 0 where
   pub tokens : HasTokens text found
   pub is_module : IsModule 256 m (terminals_of text found.tokens)
 
--- a text with tokens that are no module's, or nest too deep
-pub record IsNoModule (text : Text) : Type 0 where
+-- a text with tokens that are no module's, or nest too deep, and what is wrong with them where
+pub record IsUnread (text : Text) (fault : ReadFault) : Type 0 where
   pub found : TokenList
   pub tokens : HasTokens text found
-  pub no_module : (m : ModuleTree) → IsModule 256 m (terminals_of text found.tokens) → ⊥
+  pub has : HasReadFault text found fault
 
 -- the text of a module that is accepted, and whose net is no chain
 pub record IsNotBuilt (text : Text) : Type 0 where
@@ -67,11 +68,11 @@ pub record IsNotBuilt (text : Text) : Type 0 where
   pub accepted : IsAccepted tree
   pub no_chain : (inversions : ℕ) → IsChain (net_of tree) inversions → ⊥
 
--- the text is refused for this; which fault of reading it is, isn't claimed
+-- the text is refused for this
 abbrev pub IsRefused : Text → InputFault → Type 0
 IsRefused text (TooLong which) = (which ≡ NetFile) × (most_bytes < length text)
 IsRefused text (Lex fault) = IsShort text × HasFault text fault
-IsRefused text (Read fault) = IsShort text × IsNoModule text × (fault ≢ NoMemory)
+IsRefused text (Read fault) = IsShort text × IsUnread text fault
 IsRefused text (Net fault) = IsShort text × ((m : ModuleTree) × IsText text m × IsFault m fault)
 IsRefused text NotBuilt = IsShort text × IsNotBuilt text
 
@@ -81,14 +82,6 @@ pub record IsLaidOut (text : Text) (m : ModuleTree) (inversions : ℕ) : Type 0 
   pub is_text : IsText text m
   pub accepted : IsAccepted m
   pub chain : IsChain (net_of m) inversions
-
--- a fault of reading; two such faults are alike, and any other fault is like itself alone
-abbrev pub IsRead : InputFault → Type 0
-IsRead (Read fault) = ⊤
-IsRead _ = ⊥
-
-abbrev pub AreAlike : InputFault → InputFault → Type 0
-AreAlike f g = (f ≡ g) ⊎ (IsRead f × IsRead g)
 
 -- a layout that a report prints, and what it is worth
 pub record IsLayout (net : Netlist) (m : Module) (N : Network) (ratio : Ratio) (report : Text) : Type 0 where
@@ -119,11 +112,3 @@ pub data IsAnswer {A : Type 0} (words : List (String A)) (told : Option Files) :
       → IsRefused text fault → IsAnswer words told (Refused fault) (refusal_text (input_fault_text fault))
   laid_out : (net text : Text) (m : ModuleTree) (k : ℕ) → net_word words ≡ Some net → IsThere told net → HasText words told text
       → IsLaidOut text m k → IsAnswer words told (Found (column k).ratio) (report_of (net_of m) k)
-
--- answers that are the same, but for which fault of reading is named
-abbrev pub IsReadRefusal : Status → Type 0
-IsReadRefusal (Refused fault) = IsRead fault
-IsReadRefusal _ = ⊥
-
-abbrev pub AreAlikeAnswers : Status → Text → Status → Text → Type 0
-AreAlikeAnswers s x t y = ((s ≡ t) × (x ≡ y)) ⊎ (IsReadRefusal s × IsReadRefusal t)

@@ -21,7 +21,7 @@ ghost use Rattle.bx_engine.specs.declared.status.InputFault.{InputFault as Fault
 ghost use Rattle.bx_engine.specs.declared.status.Status.{Status as Ending};
 ghost use Rattle.bx_engine.specs.Statuses.{IsSettled};
 ghost use Rattle.bx_engine.specs.Texts.{refusal_text, word_fault_text, input_fault_text};
-ghost use Rattle.bx_engine.specs.Runs.{net_word as net_word_of, net_text, IsRefused, AreAlike, IsLaidOut, IsLayout, IsThere, IsAnswer};
+ghost use Rattle.bx_engine.specs.Runs.{net_word as net_word_of, net_text, IsRefused, IsLaidOut, IsLayout, IsThere, IsAnswer};
 ghost use Rattle.bx_engine.specs.Serves.{Serves};
 
 use crate::design::{Layout, NoLayout, lay_out};
@@ -52,12 +52,11 @@ pub fn run<T: Threads + Sync, D: Desk, G: Gate + Sync>(
     ensures words_said { result ≡ Status.Words WordFault.Command
         → Adds (D.said desk.old) (D.said desk.new) (refusal_text (word_fault_text WordFault.Command)) }
 
-    // A file is refused for what is first wrong with its text, and for nothing else. Which fault of reading
-    // it is isn't claimed.
+    // A file is refused for what is first wrong with its text, at its place, and for nothing else.
     ensures refused_only { (fault : Fault) → result ≡ Status.Refused fault → (text : Text) → net_text words.now (D.files desk.old) ≡ Some text
         → IsRefused text fault }
     ensures refused { IsSettled result → (text : Text) → net_text words.now (D.files desk.old) ≡ Some text → (fault : Fault) → IsRefused text fault
-        → (answered : Fault) × (result ≡ Status.Refused answered) × AreAlike answered fault }
+        → result ≡ Status.Refused fault }
     ensures refused_said { (fault : Fault) → result ≡ Status.Refused fault
         → Adds (D.said desk.old) (D.said desk.new) (refusal_text (input_fault_text fault)) }
 

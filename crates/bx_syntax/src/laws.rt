@@ -1,17 +1,18 @@
 //! Laws of the definitions that the contracts cite. Nothing here runs.
-ghost use Rattle.std.specs.Prelude.{◌≡◌, ◌<◌, ◌≤◌, ◌^◌, ◌↔◌, ◌⊎◌, ℕ, List, Contains, codes, length};
+ghost use Rattle.std.specs.Prelude.{◌≡◌, ◌<◌, ◌≤◌, ◌^◌, ◌↔◌, ◌⊎◌, ℕ, List, [], ◌∷◌, map, Contains, codes, length, Some, None};
 ghost use Rattle.bx_logic.specs.declared.op.Op.TheVariants.{Buf, Not, And, Or, Nand, Nor, Xor, Xnor};
-ghost use Rattle.bx_syntax.specs.declared.terminal.Mark.TheVariants.{Module, EndModule, Input, Output, Wire, Assign};
+ghost use Rattle.bx_syntax.specs.declared.terminal.Mark.TheVariants.{Module, EndModule, Input, Output, Wire, Assign, Open, Close, Comma, Semicolon, Equals, Tilde, Ampersand, Caret, TildeCaret, Bar};
 ghost use Rattle.bx_syntax.specs.declared.terminal.Terminal.{Terminal};
-ghost use Rattle.bx_syntax.specs.declared.terminal.Terminal.TheVariants.{Mark, Gate, Name, Reserved};
+ghost use Rattle.bx_syntax.specs.declared.terminal.Terminal.TheVariants.{Mark, Gate, Name, Reserved, Symbol};
 ghost use Rattle.bx_syntax.specs.Words.{refused_words, reserved_words, word_terminal};
 ghost use Rattle.bx_syntax.specs.Parts.{ModuleTree};
 ghost use Rattle.bx_syntax.specs.Sizes.{module_size};
 ghost use Rattle.bx_syntax.specs.Grammar.{IsModule};
 ghost use Rattle.bx_syntax.specs.declared.fault.ReadFault.{ReadFault};
 ghost use Rattle.bx_lex.specs.Tokens.{TokenList};
-ghost use Rattle.bx_syntax.specs.Terminals.{terminals_of};
-ghost use Rattle.bx_syntax.specs.Faults.{Stops, HasReadFault};
+ghost use Rattle.bx_syntax.specs.Terminals.{one_symbol, symbol_terminal, terminals_of};
+ghost use Rattle.bx_syntax.specs.Faults.{symbol_construct, Stops, HasReadFault};
+ghost use Rattle.bx_syntax.specs.declared.fault.Construct.TheVariants.{Vector, Ternary, Delay, Concat, Operator, Directive};
 ghost use Rattle.bx_syntax.specs.Texts.{IsTree};
 
 /// A list of terminals has at most one tree, however deep it may nest.
@@ -24,6 +25,15 @@ pub fn one_tree()
 pub fn what_used_words_are()
     ensures marks { (word_terminal (codes "module") ≡ Mark Module) × (word_terminal (codes "endmodule") ≡ Mark EndModule) × (word_terminal (codes "input") ≡ Mark Input) × (word_terminal (codes "output") ≡ Mark Output) × (word_terminal (codes "wire") ≡ Mark Wire) × (word_terminal (codes "assign") ≡ Mark Assign) }
     ensures gates { (word_terminal (codes "and") ≡ Gate And) × (word_terminal (codes "or") ≡ Gate Or) × (word_terminal (codes "nand") ≡ Gate Nand) × (word_terminal (codes "nor") ≡ Gate Nor) × (word_terminal (codes "xor") ≡ Gate Xor) × (word_terminal (codes "xnor") ≡ Gate Xnor) × (word_terminal (codes "buf") ≡ Gate Buf) × (word_terminal (codes "not") ≡ Gate Not) }
+{}
+
+/// What the symbols are to the grammar, and which stand for a construct that isn't taken.
+pub fn what_symbols_are()
+    ensures marks { map one_symbol (codes "(),;=~&^|") ≡ Some Open ∷ Some Close ∷ Some Comma ∷ Some Semicolon ∷ Some Equals ∷ Some Tilde ∷ Some Ampersand ∷ Some Caret ∷ Some Bar ∷ [] }
+    ensures pairs { (symbol_terminal (codes "~^") ≡ Mark TildeCaret) × (symbol_terminal (codes "^~") ≡ Mark TildeCaret) }
+    ensures constructs { map symbol_construct (codes "[?#{`") ≡ Some Vector ∷ Some Ternary ∷ Some Delay ∷ Some Concat ∷ Some Directive ∷ [] }
+    ensures operators { map symbol_construct (codes "+-*/%<>!") ≡ Some Operator ∷ Some Operator ∷ Some Operator ∷ Some Operator ∷ Some Operator ∷ Some Operator ∷ Some Operator ∷ Some Operator ∷ [] }
+    ensures others { (symbol_terminal (codes "@") ≡ Symbol 64) × (symbol_construct 64 ≡ None) }
 {}
 
 /// A word that is refused is none of the grammar's, and so no name. A word is a name exactly where it is

@@ -7,7 +7,7 @@ ghost use Rattle.bx_verilog.specs.Formulas.{Text};
 ghost use Rattle.bx_engine.specs.declared.status.InputFault.{InputFault};
 ghost use Rattle.bx_engine.specs.declared.status.Status.{Status};
 ghost use Rattle.bx_engine.specs.Statuses.{IsSettled};
-ghost use Rattle.bx_engine.specs.Runs.{net_word, net_text, IsRefused, IsLaidOut, IsAnswer, AreAlikeAnswers};
+ghost use Rattle.bx_engine.specs.Runs.{net_word, net_text, IsRefused, IsLaidOut, IsAnswer};
 
 /// The words `design` and a file name this file, and its text is what the desk tells of it.
 pub fn two_words_name_a_file()
@@ -20,13 +20,12 @@ pub fn each_text_has_an_answer()
     ensures { (text : Text) → ((fault : InputFault) × IsRefused text fault) ⊎ ((m : ModuleTree) × (k : ℕ) × IsLaidOut text m k) }
 {}
 
-/// Words that name no file have one answer, and so have words and the text of the file that they name,
-/// but for which fault of reading a refusal names.
+/// Words that name no file have one answer, and so have words and the text of the file that they name.
 pub fn an_input_has_one_answer()
     ensures words { (words : List (String Global)) (told : Option Files) (s t : Status) (x y : Text) → net_word words ≡ None
         → IsAnswer words told s x → IsAnswer words told t y → (s ≡ t) × (x ≡ y) }
     ensures text { (words : List (String Global)) (told : Option Files) (s t : Status) (x y text : Text) → net_text words told ≡ Some text
-        → IsAnswer words told s x → IsAnswer words told t y → AreAlikeAnswers s x t y }
+        → IsAnswer words told s x → IsAnswer words told t y → (s ≡ t) × (x ≡ y) }
 {}
 
 /// No answer is want of memory or a fault of reading or writing.

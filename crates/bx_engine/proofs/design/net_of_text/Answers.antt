@@ -5,7 +5,7 @@ use Rattle.bx_engine.proofs.design.net_of_text.Goals as goal
 pub returns-in_err-module-clause-err : goal.returns-in_err-module-clause-err
 returns-in_err-module-clause-err c =
     ends_so c.args.text.now c.from_residual-in_err-module.result _ c.from_residual-in_err-module.ensures.1
-    (read_ends c.args.text.now c.requires c.in_ok-tokens.tokens c.in_err-module.field-0.0 c.in_ok-tokens.ensures.found c.in_err-module.ensures.only)
+    (read_ends c.args.text.now c.requires c.in_ok-tokens.tokens c.in_err-module.field-0.0 c.in_ok-tokens.ensures.found c.in_err-module.ensures.faults)
 
 pub returns-in_err-net-clause-err : goal.returns-in_err-net-clause-err
 returns-in_err-net-clause-err c =

@@ -1,5 +1,5 @@
 -- A gate gives the same where its two values are exchanged.
-use Rattle.std.proofs.Common.{◌≡◌, ℕ, Bool, true, false, not, List, [], ◌∷◌, refl, ap, arith}
+use Rattle.std.proofs.Common.{◌≡◌, ℕ, Bool, true, false, not, List, [], ◌∷◌, refl, arith}
 use Rattle.bx_logic.specs.Op.{conjunction, disjunction, parity}
 use Rattle.bx_forms.specs.declared.kind.Kind.{Kind}
 use Rattle.bx_forms.specs.declared.kind.Kind.TheVariants.{Input, Output, Not, Fan, And, Or, Nand, Nor, Xor, Xnor}

@@ -2,7 +2,7 @@
 use Rattle.std.proofs.Common.{◌≡◌, ℕ, zero, suc, ◌+◌, ◌<◌, ◌≤◌, List, [], ◌∷◌, length, map, get_or, replicate, Some, None, inl, inr, refl, subst, arith}
 use Rattle.std.specs.List.{slice_get}
 use Rattle.std.proofs.lemmas.Bool.{cases_lt}
-use Rattle.bx_forms.specs.Forms.{IsForm, form_name, shape_of}
+use Rattle.bx_forms.specs.Forms.{form_name, shape_of}
 use Rattle.bx_forms.specs.declared.table.Shape.{Shape}
 use Rattle.bx_forms.specs.declared.table.TheConstants.{FORMS}
 

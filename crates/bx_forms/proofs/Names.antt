@@ -1,9 +1,9 @@
 -- A form is known by its name.
-use Rattle.std.proofs.Common.{◌≡◌, ℕ, ◌<◌, List, Option, Some, None, IfSome, map, refl, sym, ap, ◌∙◌, subst, arith}
+use Rattle.std.proofs.Common.{◌≡◌, ℕ, List, Option, Some, IfSome, map, refl, sym, ◌∙◌, subst, arith}
 use Rattle.std.specs.List.{position}
 use Rattle.std.specs.Str.{bytes_eq}
 use Rattle.bx_forms.specs.declared.table.TheConstants.{FORMS}
-use Rattle.bx_forms.specs.Forms.{IsForm, form_name}
+use Rattle.bx_forms.specs.Forms.{form_name}
 use Rattle.bx_forms.proofs.Lines.{AllFrom, from-all, named-within}
 
 -- the first form with this name

@@ -1,6 +1,6 @@
 -- The forms that hold a node: each line of the table is as its node's kind wants it, so that there is one
 -- form for each way in which a node's edges come in and leave.
-use Rattle.std.proofs.Common.{◌≡◌, ℕ, suc, ◌+◌, ◌*◌, ◌<◌, ◌≤◌, Bool, true, false, List, Option, Some, None, is_some, IfSome, if◌then◌else◌, refl, sym, ap, ap₂, ◌∙◌, subst, arith}
+use Rattle.std.proofs.Common.{◌≡◌, ℕ, ◌+◌, ◌*◌, ◌<◌, Bool, true, false, List, Option, Some, None, is_some, IfSome, if◌then◌else◌, refl, sym, ap, ap₂, ◌∙◌, subst, arith}
 use Rattle.bx_forms.specs.declared.kind.Kind.{Kind}
 use Rattle.bx_forms.specs.declared.kind.Kind.TheVariants.{Input, Output, Not, Fan, And, Or, Nand, Nor, Xor, Xnor}
 use Rattle.bx_forms.specs.declared.side.Side.{Side}
@@ -11,7 +11,7 @@ use Rattle.bx_forms.specs.declared.table.Function.TheVariants as function
 use Rattle.bx_forms.specs.declared.table.Shape.{Shape}
 use Rattle.bx_forms.specs.Kinds.{operands, slots, gives}
 use Rattle.bx_forms.specs.Sides.{is_used, side_count}
-use Rattle.bx_forms.specs.Forms.{IsForm, shape_of, shape_node, shape_upper, shape_lower, shape_sends, form_node, form_upper, form_lower, form_sends, function_value, slot_on, IsFormWith, IsFormOf}
+use Rattle.bx_forms.specs.Forms.{shape_of, shape_node, shape_upper, shape_lower, shape_sends, form_node, form_upper, form_lower, form_sends, function_value, slot_on, IsFormWith, IsFormOf}
 use Rattle.bx_forms.proofs.Lines.{AllFrom, from-all, shaped-within}
 
 -- the function of the forms that hold a node of this kind

@@ -52,6 +52,15 @@ const FUNCTIONS: [(&str, [(bool, bool); 4]); 8] = [
     ),
 ];
 
+// What is in the set of `cross` and `input_l`.
+const MEMBERS: [(&str, bool); 5] = [
+    ("input_l", true),
+    ("input_r", false),
+    ("wire_ll", false),
+    ("double", false),
+    ("cross", true),
+];
+
 const ROWS: [(bool, bool); 4] = [(false, false), (false, true), (true, false), (true, true)];
 
 fn named(name: &str) -> Result<Form, Fail> {
@@ -129,12 +138,8 @@ fn a_set_has_what_was_put_into_it(rt: HostRuntime) -> Result<(), Fail> {
     let set = FormSet::none()
         .with(named("cross")?)
         .with(named("input_l")?);
-    for name in NAMES {
-        assert_eq!(rt;
-            set.has(named(name)?),
-            name == "cross" || name == "input_l",
-            "{name}"
-        );
+    for (name, wanted) in MEMBERS {
+        assert_eq!(rt; set.has(named(name)?), wanted, "{name}");
     }
     Ok(())
 }

@@ -1,7 +1,6 @@
-use Rattle.std.proofs.Common.{◌≡◌, ℕ, ◌<◌, Some, true, List, sym, ◌∙◌, ap, arith, below_more}
+use Rattle.std.proofs.Common.{◌≡◌, ◌<◌, true, arith, below_more}
 use Rattle.std.specs.Str.{bytes_eq}
 use Rattle.std.proofs.lemmas.Slice.Eq.{bytes_eq-Decides}
-use Rattle.bx_forms.specs.Forms.{form_name}
 use Rattle.bx_forms.proofs.Lines.{named-within}
 use Rattle.bx_forms.proofs.form.Form.by_name.Goals as goal
 

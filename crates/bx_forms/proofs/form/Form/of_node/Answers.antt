@@ -1,4 +1,4 @@
-use Rattle.std.proofs.Common.{◌≡◌, ℕ, ◌<◌, arith, below_more, true}
+use Rattle.std.proofs.Common.{◌≡◌, ◌<◌, arith, below_more, true}
 use Rattle.bx_forms.proofs.Nodes.{form-told, told-form, node-within}
 use Rattle.bx_forms.proofs.form.Form.of_node.Goals as goal
 

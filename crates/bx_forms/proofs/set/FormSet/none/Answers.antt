@@ -1,4 +1,4 @@
-use Rattle.std.proofs.Common.{◌≡◌, Bool, true, false, get_or, replicate}
+use Rattle.std.proofs.Common.{◌≡◌, false, get_or, replicate}
 use Rattle.bx_forms.proofs.Lines.{get_or-replicate}
 use Rattle.bx_forms.proofs.set.FormSet.none.Goals as goal
 

@@ -6,50 +6,10 @@ use super::*;
 use bx_lex::read_tokens;
 use bx_logic::{Driver, Net, Op};
 use std::alloc::Global;
+use std::hash::{BuildHasher, BuildHasherDefault, FoldHasher};
 use std::process::Abort;
 use std::test::Fail;
-
-/// The net of a text, or the first fault of its module.
-fn read(alloc: Global, text: &str) -> Result<Result<Net, NetFault>, Fail> {
-    if text.len() >= 1 << 32 {
-        return Err("a text of the tests is short".into());
-    }
-    let Ok(tokens) = read_tokens(alloc, text.as_bytes()) else {
-        return Err("a text of the tests has tokens".into());
-    };
-    let Ok(module) = read_module(alloc, text.as_bytes(), &tokens) else {
-        return Err("a text of the tests is a module".into());
-    };
-    Ok(to_net(alloc, &module))
-}
-
-/// The net of a text in which nothing is wrong.
-fn net(alloc: Global, text: &str) -> Result<Net, Fail> {
-    match read(alloc, text)? {
-        Ok(net) => Ok(net),
-        Err(_) => Err("nothing is wrong with the module".into()),
-    }
-}
-
-/// What a fault says, and of which name.
-fn parts(fault: &NetFault) -> (&str, &[u8]) {
-    match fault {
-        NetFault::BadPort(name) => ("bad port", name.as_slice()),
-        NetFault::NoOutput => ("no output", &[]),
-        NetFault::TwoDrivers(name) => ("two drivers", name.as_slice()),
-        NetFault::NoDriver(name) => ("no driver", name.as_slice()),
-        NetFault::Cycle(name) => ("cycle", name.as_slice()),
-        NetFault::NoMemory => ("no memory", &[]),
-    }
-}
-
-/// The output values of a net for these values of its inputs.
-fn values(rt: &impl Abort, alloc: Global, net: &Net, bits: &[bool]) -> Result<Vec<bool>, Fail> {
-    assert_eq!(rt; bits.len(), net.input_count() as usize);
-    let mut out = Vec::new(alloc);
-    net.eval(alloc, bits, &mut out)?;
-    Ok(out)
-}
+use std::time::CpuClock;
 
 // What stands behind `module m`, and the first fault of the module: its kind, and the name that has it.
 const FAULTS: [(&str, &str, &str); 17] = [
@@ -134,6 +94,18 @@ fn the_first_fault_is_answered(rt: HostRuntime) -> Result<(), Fail> {
         }
     }
     Ok(())
+}
+
+// What a fault says, and of which name.
+fn parts(fault: &NetFault) -> (&str, &[u8]) {
+    match fault {
+        NetFault::BadPort(name) => ("bad port", name.as_slice()),
+        NetFault::NoOutput => ("no output", &[]),
+        NetFault::TwoDrivers(name) => ("two drivers", name.as_slice()),
+        NetFault::NoDriver(name) => ("no driver", name.as_slice()),
+        NetFault::Cycle(name) => ("cycle", name.as_slice()),
+        NetFault::NoMemory => ("no memory", &[]),
+    }
 }
 
 // What stands behind `module m`, values of its inputs, and the values of its outputs.
@@ -279,29 +251,6 @@ fn operators_of_a_level_group_to_the_left(rt: HostRuntime) -> Result<(), Fail> {
     Ok(())
 }
 
-/// A module of so many wires, each the negation of the one before it.
-fn deep(alloc: Global, count: u32) -> Result<String, Fail> {
-    let mut text = format!(in alloc; "module m(a,y);input a;output y;wire w0=~a")?;
-    for wire in 1..count {
-        text.push_str(format!(in alloc; ",w{wire}=~w{}", wire - 1)?.as_str())?;
-    }
-    text.push_str(format!(in alloc; ";buf(y,w{});endmodule", count.saturating_sub(1))?.as_str())?;
-    Ok(text)
-}
-
-/// A module of one expression and one gate with so many operands each.
-fn wide(alloc: Global, count: u32) -> Result<String, Fail> {
-    let mut text = format!(in alloc; "module m(a,y);input a;output y;xor(y,a")?;
-    for _ in 1..count {
-        text.push_str(",a")?;
-    }
-    for _ in 1..count {
-        text.push_str("^a")?;
-    }
-    text.push_str(");endmodule")?;
-    Ok(text)
-}
-
 #[test]
 fn large_modules_have_nets(rt: HostRuntime) -> Result<(), Fail> {
     let alloc = rt.alloc();
@@ -316,4 +265,139 @@ fn large_modules_have_nets(rt: HostRuntime) -> Result<(), Fail> {
         assert_eq!(rt; out.as_slice(), [bit].as_slice());
     }
     Ok(())
+}
+
+// A module of so many wires, each the negation of the one before it.
+fn deep(alloc: Global, count: u32) -> Result<String, Fail> {
+    let mut text = format!(in alloc; "module m(a,y);input a;output y;wire w0=~a")?;
+    for wire in 1..count {
+        text.push_str(format!(in alloc; ",w{wire}=~w{}", wire - 1)?.as_str())?;
+    }
+    text.push_str(format!(in alloc; ";buf(y,w{});endmodule", count.saturating_sub(1))?.as_str())?;
+    Ok(text)
+}
+
+// A module of one expression and one gate with so many operands each.
+fn wide(alloc: Global, count: u32) -> Result<String, Fail> {
+    let mut text = format!(in alloc; "module m(a,y);input a;output y;xor(y,a")?;
+    for _ in 1..count {
+        text.push_str(",a")?;
+    }
+    for _ in 1..count {
+        text.push_str("^a")?;
+    }
+    text.push_str(");endmodule")?;
+    Ok(text)
+}
+
+type ShortName = [u8; 6];
+
+const NAMES: usize = 36_000;
+
+// How many groups an index of so many names has.
+const GROUPS: u64 = 4_096;
+
+#[test]
+fn names_that_collide_cost_what_others_do(rt: HostRuntime) -> Result<(), Fail> {
+    let alloc = rt.alloc();
+    let colliding = reading_time(&rt, alloc, &short_names(alloc, true)?)?;
+    let others = reading_time(&rt, alloc, &short_names(alloc, false)?)?;
+    // An index by the names' own hashes takes some twenty times as long for those that collide. (`rt try`
+    // checks each condition on the way, and has no time for so many names.)
+    let bound = others.saturating_mul(4).saturating_add(50_000);
+    assert!(rt; colliding < bound, "{colliding} and {others} microseconds");
+    Ok(())
+}
+
+// The microseconds that it takes to read a module with these wires.
+fn reading_time(
+    rt: &(impl Abort + CpuClock),
+    alloc: Global,
+    names: &[ShortName],
+) -> Result<u64, Fail> {
+    let text = wires(alloc, names)?;
+    let start = rt.thread_cpu_time()?;
+    let net = net(alloc, &text)?;
+    let end = rt.thread_cpu_time()?;
+    assert_eq!(rt; net.len() as usize, NAMES + 2);
+    let Some(time) = end.checked_sub(start) else {
+        return Err("a clock goes on".into());
+    };
+    Ok(u64::try_from(time.as_micros())?)
+}
+
+// A module with these wires, which nothing drives or reads.
+fn wires(alloc: Global, names: &[ShortName]) -> Result<String, Fail> {
+    let mut text = format!(in alloc; "module m(a,y);input a;output y;buf(y,a)")?;
+    for name in names {
+        text.push_str(";wire ")?;
+        for byte in name {
+            text.push(char::from(*byte))?;
+        }
+    }
+    text.push_str(";endmodule")?;
+    Ok(text)
+}
+
+// Names that collide in the maps of the toolchain, or that do not. They are found by trying.
+fn short_names(alloc: Global, colliding: bool) -> Result<Vec<ShortName>, Fail> {
+    let mut names = Vec::new(alloc);
+    for number in 0..1_000_000 {
+        let name = short_name(number);
+        if collides(&name) == colliding {
+            names.push(name)?;
+        }
+        if names.len() == NAMES {
+            return Ok(names);
+        }
+    }
+    Err("there are enough such names".into())
+}
+
+// The letters that stand for a number.
+fn short_name(number: u32) -> ShortName {
+    let mut name = [b'a'; 6];
+    let mut rest = number;
+    for letter in name.iter_mut() {
+        *letter = b'a' + (rest % 26) as u8;
+        rest /= 26;
+    }
+    name
+}
+
+// Whether a map looks a name up from a group in the first sixteenth on. Where it does so with all of its
+// names, it goes past nearly all that came before.
+fn collides(name: &[u8]) -> bool {
+    let hash = BuildHasherDefault::<FoldHasher>::new().hash_one(name);
+    (hash ^ hash >> 32) % GROUPS < GROUPS / 16
+}
+
+// The output values of a net for these values of its inputs.
+fn values(rt: &impl Abort, alloc: Global, net: &Net, bits: &[bool]) -> Result<Vec<bool>, Fail> {
+    assert_eq!(rt; bits.len(), net.input_count() as usize);
+    let mut out = Vec::new(alloc);
+    net.eval(alloc, bits, &mut out)?;
+    Ok(out)
+}
+
+// The net of a text in which nothing is wrong.
+fn net(alloc: Global, text: &str) -> Result<Net, Fail> {
+    match read(alloc, text)? {
+        Ok(net) => Ok(net),
+        Err(_) => Err("nothing is wrong with the module".into()),
+    }
+}
+
+// The net of a text, or the first fault of its module.
+fn read(alloc: Global, text: &str) -> Result<Result<Net, NetFault>, Fail> {
+    if text.len() >= 1 << 32 {
+        return Err("a text of the tests is short".into());
+    }
+    let Ok(tokens) = read_tokens(alloc, text.as_bytes()) else {
+        return Err("a text of the tests has tokens".into());
+    };
+    let Ok(module) = read_module(alloc, text.as_bytes(), &tokens) else {
+        return Err("a text of the tests is a module".into());
+    };
+    Ok(to_net(alloc, &module))
 }

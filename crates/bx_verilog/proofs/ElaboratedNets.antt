@@ -1,23 +1,19 @@
 -- The lists that a module gives make a net, where its names are driven once and none depends on itself.
-use Rattle.std.proofs.Common.{◌≡◌, ◌≢◌, ℕ, ◌+◌, ◌-◌, ◌<◌, ◌≤◌, ◌&&◌, Bool, true, false, cond, List, [], ◌∷◌, ◌++◌, map, flat_map, length, length-append, get_or, Contains, Some, None, refl, sym, ap, ◌∙◌, subst, arith, inl, inr}
+use Rattle.std.proofs.Common.{◌≡◌, ℕ, ◌+◌, ◌-◌, ◌<◌, ◌≤◌, Bool, false, List, [], ◌∷◌, ◌++◌, map, flat_map, length, length-append, get_or, Contains, refl, sym, ap, ◌∙◌, subst, arith, inl, inr}
 use Rattle.std.specs.Prelude.{nat_lt}
-use Rattle.std.specs.List.{All, AllByRecursion, count_by, position, position_or_len}
+use Rattle.std.specs.List.{All, AllByRecursion}
 use Rattle.std.specs.Str.{bytes_eq}
-use Rattle.std.proofs.Math.Bool.{and-true}
-use Rattle.std.proofs.lemmas.Bool.{cases_lt, cond-true, lt-ltb}
-use Rattle.std.proofs.lemmas.Bool.Decides.{nat_tests}
+use Rattle.std.proofs.lemmas.Bool.{cases_lt}
 use Rattle.std.proofs.lemmas.List.{length-map, get_or_default, get_or_past, get_or-append-add}
 use Rattle.std.proofs.lemmas.Option.{slice_get-get_or}
 use Rattle.std.proofs.lemmas.List.Elements.{All-append, All-map, All-weaker, All-contains, All-from_recursion, All-get_or, Contains-get_or}
 use Rattle.std.proofs.lemmas.List.Quantifiers.{position-Some}
-use Rattle.std.proofs.lemmas.List.Sums.{sum_by-cons, length-filter, count_by-le-length}
-use Rattle.bx_logic.specs.Lists.{AreDistinct}
+use Rattle.std.proofs.lemmas.List.Sums.{length-filter, count_by-le-length}
 use Rattle.bx_logic.specs.declared.op.Op.TheVariants.{Not}
 use Rattle.bx_logic.specs.declared.driver.Driver.{Driver}
 use Rattle.bx_logic.specs.declared.driver.Driver.TheVariants.{Input, Constant, Gate}
 use Rattle.bx_logic.specs.Nets.{arguments_of, driver_at, HasArity, IsDriver, IsAcyclic, IsNet, output_nets}
 use Rattle.bx_logic.specs.Cycles.{ReadsNetsOnly}
-use Rattle.bx_syntax.specs.declared.tree.Direction.TheVariants.{Input as InputDirection}
 use Rattle.bx_syntax.specs.declared.tree.Operator.{Operator}
 use Rattle.bx_syntax.specs.declared.tree.Operator.TheVariants.{And, Or, Xor, Xnor}
 use Rattle.bx_syntax.specs.declared.tree.Port.{Port}
@@ -25,22 +21,22 @@ use Rattle.bx_syntax.specs.Parts.{ModuleTree}
 use Rattle.bx_syntax.specs.Texts.{IsTree}
 use Rattle.bx_syntax.proofs.Sizes.{module_fits}
 use Rattle.bx_verilog.specs.declared.role.Role.{Role}
-use Rattle.bx_verilog.specs.declared.role.Role.TheVariants.{Header, Directed, Read}
+use Rattle.bx_verilog.specs.declared.role.Role.TheVariants.{Read}
 use Rattle.bx_verilog.specs.Formulas.{Text, Formula, named, constant, negation, pair, operation, names_of}
-use Rattle.bx_verilog.specs.Drives.{Drive, parts_of, drives}
-use Rattle.bx_verilog.specs.Mentions.{Mention, direction_mentions, port_mentions, part_mentions, mentions, names, number, count, is_header, is_input, is_output, is_driven, ports_as, inputs, outputs}
-use Rattle.bx_verilog.specs.Faults.{IsFree, IsDriven, HasTwoDrivers, HasPorts, twice_in_header}
-use Rattle.bx_verilog.specs.Elaboration.{own, all_own, inner_size, net_number, own_drivers, net_numbers, all_own_drivers, inner_drivers, name_count, driver_of, chosen, net_of}
+use Rattle.bx_verilog.specs.Drives.{Drive, drives}
+use Rattle.bx_verilog.specs.Mentions.{names, number, count, is_input, is_output, ports_as, inputs, outputs}
+use Rattle.bx_verilog.specs.Faults.{IsDriven}
+use Rattle.bx_verilog.specs.Elaboration.{own, all_own, inner_size, net_number, own_drivers, net_numbers, all_own_drivers, inner_drivers, name_count, driver_of, net_of}
 use Rattle.bx_verilog.proofs.Arity.{drive-arity}
-use Rattle.bx_verilog.proofs.Driving.{IsGateOf, driver-cases, no-gate-of-input, read-mention}
-use Rattle.bx_verilog.proofs.Firsts.{same_texts, same_bytes, place-of}
+use Rattle.bx_verilog.proofs.Driving.{IsGateOf, driver-cases, read-mention}
+use Rattle.bx_verilog.proofs.Firsts.{same_texts, place-of}
 use Rattle.bx_verilog.proofs.InnerNets.{length-drivers, driver-at-name, named-driver}
-use Rattle.bx_verilog.proofs.Membership.{Member, Contains-from_member, Member-from_contains, Member-append_left, Member-append_right, Member-filter_cases, AllByRecursion-from_member, counted, counted-append, AreDistinct-filter, count_by-some}
+use Rattle.bx_verilog.proofs.Membership.{Member, Contains-from_member, Member-from_contains, Member-append_left, Member-append_right, AllByRecursion-from_member}
 use Rattle.bx_verilog.proofs.Inputs.{port_names, port-named, input-at, inputs-distinct, once-driven}
 use Rattle.bx_verilog.proofs.Places.{position-of}
 use Rattle.bx_verilog.proofs.MentionSizes.{nets-fit}
 use Rattle.bx_verilog.proofs.OwnNets.{inner_size-append}
-use Rattle.bx_verilog.proofs.Numbering.{number-within, number-of, mentioned, count-mention}
+use Rattle.bx_verilog.proofs.Numbering.{number-within, number-of, mentioned}
 
 -- Numbers within the net.
 

@@ -1,7 +1,7 @@
 -- Where the nets of a module's expressions lie in its net, and what drives its names.
-use Rattle.std.proofs.Common.{◌≡◌, ℕ, ◌+◌, ◌-◌, ◌<◌, ◌≤◌, false, List, [], ◌∷◌, ◌++◌, map, length, get_or, Contains, refl, sym, ap, ◌∙◌, subst, arith, inl, inr, length-append}
+use Rattle.std.proofs.Common.{◌≡◌, ℕ, ◌+◌, ◌-◌, ◌<◌, ◌≤◌, false, List, [], ◌∷◌, ◌++◌, map, length, get_or, Contains, refl, ap, ◌∙◌, subst, arith, inl, inr, length-append}
 use Rattle.std.proofs.lemmas.Bool.{cases_lt}
-use Rattle.std.proofs.lemmas.List.{length-map, get_or_append_left, get_or-append-add, get_or-map, append_assoc}
+use Rattle.std.proofs.lemmas.List.{length-map, get_or_append_left, get_or-append-add, get_or-map}
 use Rattle.std.proofs.lemmas.Option.{get_or_from_slice_get}
 use Rattle.bx_logic.specs.declared.op.Op.TheVariants.{Not}
 use Rattle.bx_logic.specs.declared.driver.Driver.{Driver}
@@ -9,11 +9,11 @@ use Rattle.bx_logic.specs.declared.driver.Driver.TheVariants.{Constant, Gate}
 use Rattle.bx_logic.specs.Nets.{driver_at}
 use Rattle.bx_syntax.specs.Parts.{ModuleTree}
 use Rattle.bx_syntax.specs.declared.tree.Operator.{Operator}
-use Rattle.bx_verilog.specs.Formulas.{Text, Formula, named, constant, negation, pair, operation}
+use Rattle.bx_verilog.specs.Formulas.{Text, Formula, constant, negation, pair, operation}
 use Rattle.bx_verilog.specs.Drives.{Drive, drives}
 use Rattle.bx_verilog.specs.Mentions.{names, number}
 use Rattle.bx_verilog.proofs.Numbering.{number-at, number-within}
-use Rattle.bx_verilog.proofs.OwnNets.{length-own_drivers, length-all_own_drivers, length-inner_drivers, inner_drivers-append}
+use Rattle.bx_verilog.proofs.OwnNets.{length-own_drivers, length-inner_drivers, inner_drivers-append}
 use Rattle.bx_verilog.specs.Elaboration.{own, all_own, inner_size, net_number, own_drivers, all_own_drivers, inner_drivers, name_count, driver_of, net_of}
 
 pub length-drivers : (m : ModuleTree) → length (net_of m).drivers ≡ name_count m + inner_size (drives m)

@@ -1,5 +1,5 @@
 -- Which names are the inputs of a module, and what drives them in its net.
-use Rattle.std.proofs.Common.{◌≡◌, ◌≢◌, ℕ, ◌+◌, ◌<◌, ◌≤◌, ◌&&◌, Bool, true, false, cond, List, [], ◌∷◌, map, flat_map, length, get_or, position, Contains, Option, Some, None, nat_lt, refl, sym, ap, ◌∙◌, subst, arith, inl, inr, lt-ltb, ltb-true}
+use Rattle.std.proofs.Common.{◌≡◌, ◌≢◌, ℕ, ◌<◌, ◌≤◌, ◌&&◌, Bool, true, false, cond, List, [], ◌∷◌, map, flat_map, length, get_or, position, Contains, Option, Some, None, nat_lt, refl, sym, ap, ◌∙◌, subst, arith, inl, inr, lt-ltb}
 use Rattle.std.specs.List.{count_by, position_or_len}
 use Rattle.std.specs.Str.{bytes_eq}
 use Rattle.std.specs.Cmp.Lexicographic.{bytes_decides}
@@ -11,7 +11,7 @@ use Rattle.std.proofs.lemmas.Option.{slice_get_within, get_or_from_slice_get}
 use Rattle.bx_logic.specs.Lists.{AreDistinct}
 use Rattle.bx_logic.specs.declared.driver.Driver.TheVariants.{Input as InputDriver}
 use Rattle.bx_syntax.specs.declared.tree.Direction.{Direction}
-use Rattle.bx_syntax.specs.declared.tree.Direction.TheVariants.{Input, Output}
+use Rattle.bx_syntax.specs.declared.tree.Direction.TheVariants.{Input}
 use Rattle.bx_syntax.specs.declared.tree.Port.{Port}
 use Rattle.bx_syntax.specs.Trees.{Tree}
 use Rattle.bx_syntax.specs.Parts.{PartTree, declaration, wire, assign, gate, copies, ModuleTree}

@@ -1,6 +1,6 @@
 -- The net of a module has the values of the module's equations over names: a valuation of the net makes
 -- one of the equations, and one of the equations makes one of the net, of which there is only one.
-use Rattle.std.proofs.Common.{◌≡◌, ◌⊎◌, ℕ, suc, ◌+◌, ◌≤◌, Bool, true, false, List, [], ◌∷◌, ◌++◌, map, flat_map, length, nat_lt, position, Some, Contains, refl, sym, ap, ap₂, ◌∙◌, subst, arith, inl, inr, length-append, ltb-true}
+use Rattle.std.proofs.Common.{◌≡◌, ◌⊎◌, ℕ, suc, ◌+◌, ◌≤◌, Bool, true, false, List, [], ◌∷◌, ◌++◌, map, flat_map, length, position, Some, Contains, refl, sym, ap, ap₂, ◌∙◌, subst, arith, inl, inr, length-append}
 use Rattle.std.specs.List.{AllZip}
 use Rattle.std.specs.Str.{bytes_eq}
 use Rattle.std.proofs.lemmas.Bool.{cases_lt}
@@ -12,7 +12,6 @@ use Rattle.bx_logic.specs.Op.{op_value}
 use Rattle.bx_logic.specs.Values.{value_of, driver_value, IsNetValuation, IsOnlyNetValuation, AreOutputValues}
 use Rattle.bx_logic.proofs.Valuations.{only_valuation}
 use Rattle.bx_syntax.specs.declared.tree.Direction.TheVariants.{Input, Output}
-use Rattle.bx_syntax.specs.declared.tree.Port.{Port}
 use Rattle.bx_syntax.specs.Parts.{ModuleTree}
 use Rattle.bx_verilog.specs.declared.role.Role.{Role}
 use Rattle.bx_verilog.specs.declared.role.Role.TheVariants.{Header, Directed, Wired, Driven, Read}
@@ -22,7 +21,7 @@ use Rattle.bx_verilog.specs.Mentions.{mentions, names, number, count, is_output,
 use Rattle.bx_verilog.specs.Faults.{IsDriven, IsAccepted}
 use Rattle.bx_verilog.specs.Equations.{Equation, equations_of, module_of, Assignment, Meets, IsValuation, Gives}
 use Rattle.bx_verilog.specs.Elaboration.{all_own, inner_size, net_numbers, all_own_drivers, inner_drivers, name_count, driver_of, net_of}
-use Rattle.bx_verilog.proofs.Membership.{Member, Member-from_contains, Contains-from_member, Member-from_get_or, Member-map, Member-map_cases, Member-flat_map, Member-flat_map_cases, Member-append_right, Member-filter_cases, AllByRecursion-from_member, member_of_AllByRecursion, Member-splits}
+use Rattle.bx_verilog.proofs.Membership.{Member, Member-from_contains, Contains-from_member, Member-from_get_or, Member-map, Member-map_cases, Member-flat_map, Member-flat_map_cases, Member-append_right, AllByRecursion-from_member, member_of_AllByRecursion, Member-splits}
 use Rattle.bx_verilog.proofs.Numbering.{number-at, number-within, mentioned, count-some, count-mention}
 use Rattle.bx_verilog.proofs.InnerNets.{length-drivers, named-driver}
 use Rattle.bx_verilog.proofs.OwnNets.{length-all_own_drivers}

@@ -1,5 +1,5 @@
 -- A module is at least as large as its net: it has no more names, constants and operators than its size.
-use Rattle.std.proofs.Common.{◌≡◌, ℕ, ◌+◌, ◌≤◌, Some, None, List, [], ◌∷◌, ◌++◌, map, length, length-append, append_assoc, append-nil, sym, subst, refl, ap, ◌∙◌, arith}
+use Rattle.std.proofs.Common.{◌≡◌, ◌+◌, ◌≤◌, Some, None, List, [], ◌∷◌, ◌++◌, map, length, length-append, append_assoc, append-nil, sym, subst, refl, ap, ◌∙◌, arith}
 use Rattle.std.specs.Str.{bytes_eq}
 use Rattle.std.specs.List.{flat_map, list_any, sum_by}
 use Rattle.std.proofs.lemmas.Bool.{cond-true, cond_both}
@@ -15,7 +15,7 @@ use Rattle.bx_syntax.specs.Sizes.{tree_size, tail_size, part_size, item_size, mo
 use Rattle.std.specs.Prelude.{Option}
 use Rattle.bx_verilog.specs.declared.role.Role.TheVariants.{Header, Driven, Read}
 use Rattle.bx_verilog.specs.Formulas.{Text, Formula, pair, formula, grouped, names_of}
-use Rattle.bx_verilog.specs.Drives.{Drive, drives_of, drives, parts_of}
+use Rattle.bx_verilog.specs.Drives.{drives_of, drives, parts_of}
 use Rattle.bx_verilog.specs.Mentions.{Mention, firsts, names, all_as, direction_mentions, port_mentions, reads_mentions, part_mentions}
 use Rattle.bx_verilog.specs.Elaboration.{own, all_own, inner_size}
 use Rattle.bx_verilog.proofs.OwnNets.{inner_size-append}

@@ -1,5 +1,5 @@
 -- A module in which nothing is wrong and its net have the same behaviour.
-use Rattle.std.proofs.Common.{◌≡◌, Bool, List, [], ◌∷◌, map, length, refl, sym, ap, ap₂, ◌∙◌, subst}
+use Rattle.std.proofs.Common.{◌≡◌, Bool, List, [], ◌∷◌, length, refl, sym, ap, ap₂, ◌∙◌, subst}
 use Rattle.std.specs.List.{AllZip}
 use Rattle.std.proofs.lemmas.List.{length-map}
 use Rattle.bx_logic.specs.Values.{AreOutputValues}
@@ -10,7 +10,7 @@ use Rattle.bx_syntax.specs.Texts.{IsTree}
 use Rattle.bx_verilog.specs.Formulas.{Text}
 use Rattle.bx_verilog.specs.Mentions.{inputs, outputs}
 use Rattle.bx_verilog.specs.Faults.{IsAccepted}
-use Rattle.bx_verilog.specs.Equations.{Module, module_of, Assignment, Gives, GivesOutputs, module_behaviour}
+use Rattle.bx_verilog.specs.Equations.{Module, module_of, Assignment, Gives, module_behaviour}
 use Rattle.bx_verilog.specs.Elaboration.{net_of}
 use Rattle.bx_verilog.proofs.Cyclic.{acyclic-net}
 use Rattle.bx_verilog.proofs.ElaboratedNets.{is_net}

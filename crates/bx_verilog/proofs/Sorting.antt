@@ -1,8 +1,8 @@
 -- Names in the order of their bytes, each once: how one is found, and that its place stands for it.
-use Rattle.std.proofs.Common.{◌≡◌, ◌≢◌, ◌||◌, ◌++◌, ◌⊎◌, Bor, ℕ, zero, suc, ◌+◌, ◌<◌, ◌≤◌, Bool, true, false, not, cond, eqb, List, [], ◌∷◌, length, map, get_or, take, refl, sym, subst, ap, ap₂, ◌∙◌, inl, inr, Some, arith, add-one, eq-eqb}
+use Rattle.std.proofs.Common.{◌≡◌, ◌≢◌, ◌||◌, ◌++◌, Bor, ℕ, zero, suc, ◌+◌, ◌<◌, Bool, true, false, not, cond, eqb, List, [], ◌∷◌, length, map, get_or, take, refl, sym, subst, ap, ap₂, ◌∙◌, inl, inr, Some, arith, add-one, eq-eqb}
 use Rattle.std.specs.Prelude.{slice_get, Result, Ok, Err}
 use Rattle.std.specs.Str.{bytes_eq}
-use Rattle.std.specs.List.{All, AllByRecursion, AllWithin, Contains, HoldsAt, dedup, list_any, position_or_len}
+use Rattle.std.specs.List.{All, AllByRecursion, Contains, HoldsAt, dedup, list_any, position_or_len}
 use Rattle.std.specs.List.Sorted.{IsStrictlySortedBy, IsSortedBy, IsBinarySearchResult, IsSearchInRange, IsPartitionPoint, IsPermutation}
 use Rattle.std.specs.Result.{result_unwrap_or}
 use Rattle.std.specs.Ordering.{nat_cmp, is_lt, is_eq, ordering_reverse}
@@ -10,7 +10,7 @@ use Rattle.std.specs.declared.cmp.Ordering.{Ordering}
 use Rattle.std.specs.declared.cmp.Ordering.TheVariants.{Less, Equal, Greater}
 use Rattle.std.specs.Cmp.{IsTotalOrder}
 use Rattle.std.specs.Cmp.Lexicographic.{slice_cmp, nat_list_cmp_total, on_texts, on_texts_equal, texts_ties}
-use Rattle.std.proofs.lemmas.Bool.{cases_lt, cases_Bool, cond-true, not_from_false, false_from_ne_true, true≢false, cond_both, eqb-true}
+use Rattle.std.proofs.lemmas.Bool.{cases_lt, cases_Bool, false_from_ne_true, true≢false, cond_both, eqb-true}
 use Rattle.std.proofs.lemmas.List.{length-map, get_or-map, take_more, map_push}
 use Rattle.std.proofs.lemmas.List.Elements.{recursion_from_All, All-push, Contains-get_or}
 use Rattle.std.proofs.lemmas.List.Kept.{Any-dedup}

@@ -2,9 +2,9 @@
 //! once. Which names there are is for others to say. These names are borrowed from the module: `copy` makes
 //! one that is not.
 //!
-//! The index hashes no bytes: a user who picked names with one hash would have each look-up go past all of
-//! them. Its keys are the places of the names in the order of their bytes, which are 0, 1 and so on whatever
-//! the names are. A module of n bytes so costs a time in n log n.
+//! The index hashes no bytes of names: the hash is known, and whoever picks names that collide would have
+//! each look-up go past all of them, in quadratic time. Its keys are the places of the names in the order of
+//! their bytes, which are 0, 1 and so on whatever the names are. So n bytes of names take n log n steps.
 ghost use Rattle.std.specs.Prelude.{◌≡◌, ◌<◌, ℕ, List, All, length, map, slice_index_or, [], IfOk};
 ghost use Rattle.bx_verilog.specs.Mentions.{firsts};
 ghost use Rattle.bx_verilog.specs.Shown.{number_among};

@@ -1,2 +1,5 @@
-pub mod Said
+pub mod Filled
+pub mod Put
+pub mod Slotted
 pub mod MemoryCalls
+pub mod CallLaws

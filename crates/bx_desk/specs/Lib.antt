@@ -4,3 +4,6 @@ pub mod Pieces
 pub mod Plans
 pub mod Memory
 pub mod Standard
+pub mod Slots
+pub mod Shelves
+pub mod Calls

@@ -1,14 +1,17 @@
 -- A desk in memory: what it shows, which of its calls fail, and what each call leaves.
-use Rattle.std.specs.Prelude.{ℕ, ◌+◌, ◌-◌, ◌^◌, min, Bool, ◌||◌, List, [], ◌++◌, length, take, Option, None, Some, is_some, is_none, option_map, nat_lt, if◌then◌else◌}
-use Rattle.std.specs.BTreeMap.{get_by_text}
-use Rattle.bx_desk.specs.Desk.{Files, Counts}
-use Rattle.bx_desk.specs.Plans.{kept_at}
+use Rattle.std.specs.Prelude.{ℕ, ◌+◌, ◌-◌, ◌^◌, min, Bool, ◌||◌, List, ◌++◌, length, Option, None, Some, is_some, is_none, option_map, nat_lt, if◌then◌else◌}
+use Rattle.bx_desk.specs.Desk.{Counts, DeskState}
+use Rattle.bx_desk.specs.Plans.{kept_at, kept_of}
+use Rattle.bx_desk.specs.Slots.{SlotState, file_bytes, with_slot, started_slot, room_left, with_added}
+use Rattle.bx_desk.specs.Shelves.{slots_of, started_of}
 use Rattle.bx_desk.specs.declared.memory.MemDesk.{MemDesk}
 
--- room: how many more bytes may be said; fails: numbers of calls that are to fail, each with how many
--- bytes such a call keeps; calls: the number of the last call
+-- slots: the file and the place of each name; started: the name of the started file; room: how many more
+-- bytes may be said; fails: numbers of calls that are to fail, each with how many bytes such a call keeps;
+-- calls: the number of the last call
 pub record State : Type 0 where
-  pub files : Files
+  pub slots : List ℕ → SlotState
+  pub started : Option (List ℕ)
   pub said : List ℕ
   pub room : ℕ
   pub fails : List (ℕ × ℕ)
@@ -17,12 +20,22 @@ pub record State : Type 0 where
 
 abbrev pub shown : MemDesk → State
 shown d = record {
-  files = λ name. option_map (λ file. file.items) (get_by_text d.files name);
-  said = d.said.items;
-  room = d.room;
+  slots = slots_of d.shelf;
+  started = started_of d.shelf;
+  said = d.said.bytes.items;
+  room = d.said.room;
   fails = d.fails.items;
   calls = d.calls;
-  faults = record { load = d.load_faults; say = d.say_faults };
+  faults = record { load = d.load_faults; write = d.write_faults; say = d.say_faults };
+}
+
+-- it tells everything
+abbrev pub seen : State → DeskState
+seen s = record {
+  files = Some (λ name. file_bytes (s.slots name));
+  started = option_map Some s.started;
+  said = Some s.said;
+  faults = s.faults;
 }
 
 -- one more, but at its type's end a number stays
@@ -38,25 +51,42 @@ next_kept s = kept_at s.fails (counted s.calls)
 
 -- what the next load finds: the file of this name, but nothing where it is to fail
 abbrev pub found : State → List ℕ → Option (List ℕ)
-found s name = if is_some (next_kept s) then None else s.files name
+found s name = if is_some (next_kept s) then None else file_bytes (s.slots name)
 
 -- a load fails where it is to fail, and where there is no such file
 abbrev pub cannot_load : State → List ℕ → Bool
 cannot_load s name = is_none (found s name)
 
--- a call of say fails where it is to fail, and where there is no room for all of the piece
+-- a start fails where it is to fail, and where the name has no place
+abbrev pub cannot_start : State → List ℕ → Bool
+cannot_start s name = is_some (next_kept s) || is_none (s.slots name).place
+
+-- a call of append or say fails where it is to fail, and where there is no room for all of the piece
+abbrev pub cannot_append : State → List ℕ → Bool
+cannot_append s piece = is_some (next_kept s) || nat_lt (room_left s.slots s.started) (length piece)
+
 abbrev pub cannot_say : State → List ℕ → Bool
 cannot_say s piece = is_some (next_kept s) || nat_lt s.room (length piece)
-
--- what is said of the piece
-abbrev pub kept_of : Option ℕ → ℕ → List ℕ → List ℕ
-kept_of (Some kept) room piece = take (min kept room) piece
-kept_of None room piece = if nat_lt room (length piece) then [] else piece
 
 abbrev pub after_load : State → List ℕ → State
 after_load s name = record s {
   calls = counted s.calls;
   faults = record s.faults { load = counted_if (cannot_load s name) s.faults.load };
+}
+
+abbrev pub after_start : State → List ℕ → State
+after_start s name = let fails = cannot_start s name in record s {
+  slots = if fails then s.slots else with_slot name started_slot s.slots;
+  started = if fails then None else Some name;
+  calls = counted s.calls;
+  faults = record s.faults { write = counted_if fails s.faults.write };
+}
+
+abbrev pub after_append : State → List ℕ → State
+after_append s piece = record s {
+  slots = with_added s.started (kept_of (next_kept s) (room_left s.slots s.started) piece) s.slots;
+  calls = counted s.calls;
+  faults = record s.faults { write = counted_if (cannot_append s piece) s.faults.write };
 }
 
 abbrev pub after_say : State → List ℕ → State

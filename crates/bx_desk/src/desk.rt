@@ -1,11 +1,12 @@
-//! What bestagon asks of its surroundings: files by name, and a place to say things. The trait `Desk`
-//! stands for them, so that everything above is proved over any desk, real or in memory.
+//! What bestagon asks of its surroundings: files by name, one of which may be started and written to,
+//! and a place to say things. The trait `Desk` stands for them, so that everything above is proved
+//! over any desk, real or in memory.
 //!
-//! Each kind of call has a count of its failures. It rises only in a call that answers `Failed`, and
-//! an answer that blames the desk comes only where it rose. So no body can blame a desk that did not
-//! fail, as long as the counts are below 2^64 - 1, where they stop.
-ghost use Rattle.std.specs.Prelude.{◌≡◌, ◌+◌, ◌<◌, ◌≤◌, List, [], ℕ, length, vec_len, IfSome, OnOk, OnErr, IsErrOf, Ok, Err, Some, Option};
-ghost use Rattle.bx_desk.specs.Desk.{Files, Counts, Rose, LoadCounts, SayCounts, IsFile, BeginsFile, LoadAnswers, load_answer, Adds, AddsFront};
+//! Each kind of call has a count of its failures: `load`; `start` and `append`; `say`. It rises only
+//! in a call that answers `Failed`, and an answer that blames the desk comes only where it rose. So no
+//! body can blame a desk that did not fail, as long as the counts are below 2^64 - 1, where they stop.
+ghost use Rattle.std.specs.Prelude.{◌≡◌, ◌+◌, ◌≤◌, ◌↔◌, [], vec_len, IfSome, IsSome, IsTrue, OnOk, OnErr, IsErrOf};
+ghost use Rattle.bx_desk.specs.Desk.{DeskState, IsFile, BeginsFile, LoadAnswers, load_answer, FailsToLoad, Starts, FailsToStart, Writes, WritesFront, Says, SaysFront};
 
 use std::error::Error;
 use std::fmt;
@@ -45,16 +46,10 @@ impl fmt::Display for LoadFault {
 
 impl Error for LoadFault {}
 
-/// Files by name, and a place to say things.
+/// Files by name, of which one may be started, and a place to say things. What a call doesn't name stays.
 pub trait Desk {
-    /// The bytes of each file, where the desk tells them.
-    ghost files: { Self → Option Files };
-
-    /// The bytes said so far, where the desk tells them.
-    ghost said: { Self → Option (List ℕ) };
-
-    /// How often each kind of call has failed.
-    ghost faults: { Self → Counts };
+    /// What the desk shows.
+    ghost state: { Self → DeskState };
 
     /// Reads a whole file of at most `limit` bytes into an empty vector.
     ///
@@ -66,29 +61,49 @@ pub trait Desk {
     fn load(&mut self, name: &str, limit: u64, into: &mut Vec<u8>) -> Result<(), LoadFault>
         requires { into.old.items ≡ [] }
 
-        ensures whole { OnOk result (IsFile (files self.old) name.now into.new.items) }
+        ensures whole { OnOk result (IsFile (state self.old).files name.now into.new.items) }
         ensures within { OnOk result (vec_len into.new ≤ limit) }
 
         // `TooLong`: the file begins with what the vector has, which is a byte past the limit.
         ensures too_long { IsErrOf result LoadFault.TooLong → vec_len into.new ≡ limit + 1 }
-        ensures too_long_front { IsErrOf result LoadFault.TooLong → BeginsFile (files self.old) name.now into.new.items }
-        ensures too_long_no_fault { IsErrOf result LoadFault.TooLong → faults self.new ≡ faults self.old }
+        ensures too_long_front { IsErrOf result LoadFault.TooLong → BeginsFile (state self.old).files name.now into.new.items }
 
         // The answer follows from the file, unless memory was refused or the desk failed.
-        ensures answer { IfSome (files self.old) (λ files.
-            LoadAnswers (faults self.old) (faults self.new) (load_answer limit (files name.now)) result) }
-
-        // A count rises only with `Failed`.
-        ensures failed { IsErrOf result LoadFault.Failed → Rose (faults self.old).load (faults self.new).load }
-        ensures ok_no_fault { OnOk result (faults self.new ≡ faults self.old) }
-        ensures no_memory_no_fault { IsErrOf result LoadFault.NoMemory → faults self.new ≡ faults self.old }
+        ensures answer { IfSome (state self.old).files (λ files.
+            LoadAnswers (state self.old).faults (state self.new).faults (load_answer limit (files name.now)) result) }
 
         ensures failed_empty { IsErrOf result LoadFault.Failed → into.new.items ≡ [] }
         ensures no_memory_empty { IsErrOf result LoadFault.NoMemory → into.new.items ≡ [] }
 
-        ensures counts { LoadCounts (faults self.old) (faults self.new) }
-        ensures files_stay { files self.new ≡ files self.old }
-        ensures said_stays { said self.new ≡ said self.old };
+        // Only `Failed` changes the desk, and then the count of failed loads alone.
+        ensures failed { IsErrOf result LoadFault.Failed → FailsToLoad (state self.old) (state self.new) }
+        ensures ok_stays { OnOk result (state self.new ≡ state self.old) }
+        ensures too_long_stays { IsErrOf result LoadFault.TooLong → state self.new ≡ state self.old }
+        ensures no_memory_stays { IsErrOf result LoadFault.NoMemory → state self.new ≡ state self.old };
+
+    /// Starts a file: from now on it exists, is empty, and is the one that `append` writes to.
+    ///
+    /// # Errors
+    ///
+    /// `Failed` where it could not be made or emptied. Then no file is started.
+    fn start(&mut self, name: &str) -> Result<(), Failed>
+        ensures ok { OnOk result (Starts (state self.old) (state self.new) name.now) }
+        ensures err { OnErr result (FailsToStart (state self.old) (state self.new) name.now) };
+
+    /// Whether a file is started.
+    fn has_started(&self) -> bool
+        ensures { IsTrue result ↔ IsSome (state self.now).started };
+
+    /// Writes the bytes at the end of the started file.
+    ///
+    /// # Errors
+    ///
+    /// `Failed` where not all of them could be written: then a front of them was. The file is still
+    /// the started one.
+    fn append(&mut self, piece: &[u8]) -> Result<(), Failed>
+        requires { IsSome (state self.old).started }
+        ensures ok { OnOk result (Writes (state self.old) (state self.new) piece.now) }
+        ensures err { OnErr result (WritesFront (state self.old) (state self.new) piece.now) };
 
     /// Says the bytes, behind those said before.
     ///
@@ -96,12 +111,8 @@ pub trait Desk {
     ///
     /// `Failed` where not all of them could be said: then a front of them was.
     fn say(&mut self, piece: &[u8]) -> Result<(), Failed>
-        ensures adds { OnOk result (Adds (said self.old) (said self.new) piece.now) }
-        ensures front { OnErr result (AddsFront (said self.old) (said self.new) piece.now) }
-        ensures failed { OnErr result (Rose (faults self.old).say (faults self.new).say) }
-        ensures ok_no_fault { OnOk result (faults self.new ≡ faults self.old) }
-        ensures counts { SayCounts (faults self.old) (faults self.new) }
-        ensures files_stay { files self.new ≡ files self.old };
+        ensures ok { OnOk result (Says (state self.old) (state self.new) piece.now) }
+        ensures err { OnErr result (SaysFront (state self.old) (state self.new) piece.now) };
 }
 
 #[cfg(test)]

@@ -7,7 +7,9 @@ mod gate;
 pub mod laws;
 mod memory;
 mod piece;
+mod shelf;
 mod standard;
+mod target;
 
 pub use desk::{Desk, Failed, LoadFault};
 pub use gate::{Gate, OpenGate};

@@ -1,76 +1,85 @@
 //! A desk in memory, for tests: it tells its files and what was said. It fails just where it was told
-//! to, where no file has the name, and where the room is too small. The room's memory is taken
-//! beforehand, so that saying takes none.
-ghost use Rattle.std.specs.Prelude.{◌≡◌, ◌+◌, ◌<◌, ◌≤◌, ◌↔◌, ◌++◌, [], ◌∷◌, ◌-◌, ℕ, List, length, take, vec_len, vec_capacity, IfSome, OnOk, OnErr, IsErr, IsErrOf, IsTrue, Ok, Err, Some, None, Option, option_map, is_some, if◌then◌else◌};
-ghost use Rattle.std.specs.Str.{bytes_eq};
-ghost use Rattle.std.specs.BTreeMap.{get_by_text};
-ghost use Rattle.bx_desk.specs.Plans.{kept_at};
+//! to, where no file has the name, where a started name has no place, and where the room is too small.
+//! The memory for what is written and said is taken beforehand, so that writing and saying take none.
+ghost use Rattle.std.specs.Prelude.{◌≡◌, ◌+◌, ◌≤◌, ◌↔◌, ◌++◌, [], ◌∷◌, ℕ, List, length, vec_len, IfSome, IsSome, OnOk, OnErr, IsErr, IsErrOf, IsTrue, Some, None, Option, option_map, is_some, nat_lt, ◌||◌, if◌then◌else◌};
+ghost use Rattle.bx_desk.specs.Shelves.{slots_of};
+ghost use Rattle.bx_desk.specs.Plans.{kept_at, kept_of};
 ghost use Rattle.bx_desk.specs.Loads.{LoadsFile};
-ghost use Rattle.bx_desk.specs.Desk.{Files, Counts, Rose, LoadCounts, SayCounts, IsFile, BeginsFile, LoadAnswers, load_answer, Adds, AddsFront};
+ghost use Rattle.bx_desk.specs.Slots.{with_slot, held, kept_place, file_bytes, nothing};
+ghost use Rattle.bx_desk.specs.Desk.{IsFile, BeginsFile, LoadAnswers, load_answer, FailsToLoad, Starts, FailsToStart, Writes, WritesFront, Says, SaysFront};
 
+use crate::shelf::{Shelf, Space};
 use crate::{Desk, Failed, LoadFault};
 use bx_logic::NoMemory;
 use std::alloc::Global;
-use std::collections::BTreeMap;
 
-/// Files and said bytes in memory. Calls of `load` and `say` are numbered from 1.
+/// Files and said bytes in memory. Calls of `load`, `start`, `append` and `say` are numbered from 1.
 #[derive(Drop)]
 pub struct MemDesk {
     alloc: Global,
-    files: BTreeMap<String, Vec<u8>>,
-    said: Vec<u8>,
-    room: u64,
+    shelf: Shelf,
+    said: Space,
     fails: Vec<(u64, u64)>,
     calls: u64,
     load_faults: u64,
+    write_faults: u64,
     say_faults: u64,
-    // Saying takes no memory: the bytes that may still be said have their place.
-    ghost has_room: { vec_len said + room ≤ vec_capacity said },
 }
 
 impl MemDesk {
     ghost use Rattle.bx_desk.specs.Memory.{shown, counted, next_kept};
 
-    /// A desk with no file, nothing said, no call that is to fail and no room. Takes no memory.
+    /// A desk with no file, nothing said, no call that is to fail, and no place and room. Takes no memory.
     pub fn new(alloc: Global) -> Self
-        ensures files { (name : List ℕ) → (shown result).files name ≡ None }
+        ensures slots { (name : List ℕ) → (shown result).slots name ≡ nothing }
+        ensures started { (shown result).started ≡ None }
         ensures said { (shown result).said ≡ [] }
         ensures room { (shown result).room ≡ 0 }
         ensures fails { (shown result).fails ≡ [] }
         ensures calls { (shown result).calls ≡ 0 }
-        ensures faults { (shown result).faults ≡ record { load = 0; say = 0 } }
+        ensures faults { (shown result).faults ≡ record { load = 0; write = 0; say = 0 } }
     {
         MemDesk {
             alloc,
-            files: BTreeMap::new(alloc),
-            said: Vec::new(alloc),
-            room: 0,
+            shelf: Shelf::new(alloc),
+            said: Space::new(alloc),
             fails: Vec::new(alloc),
             calls: 0,
             load_faults: 0,
+            write_faults: 0,
             say_faults: 0,
         }
     }
 
-    /// Holds a copy of the bytes as the file of this name, in place of one that was there.
+    /// Holds a copy of the bytes as the file of this name, in place of one that was there. It has no
+    /// room for more bytes.
     ///
     /// # Errors
     ///
     /// `NoMemory` where memory was refused: then nothing has changed.
     pub fn put(&mut self, name: &str, bytes: &[u8]) -> Result<(), NoMemory>
-        ensures file { OnOk result ((q : List ℕ) → (shown self.new).files q
-            ≡ (if bytes_eq name.now q then Some bytes.now else (shown self.old).files q)) }
-        ensures others { OnOk result (shown self.new ≡ record (shown self.old) { files = (shown self.new).files }) }
+        ensures ok { OnOk result (shown self.new ≡ record (shown self.old) { slots = with_slot name.now (held bytes.now) (shown self.old).slots }) }
         ensures err { OnErr result (shown self.new ≡ shown self.old) }
     {
-        let file = bytes.to_vec(self.alloc)?;
-        let name = String::from_str(self.alloc, name)?;
-        self.files.insert(name, file)?;
-        Ok(())
+        self.shelf.put(name, bytes)
     }
 
-    /// Plans that the call of this number fails. A `say` that fails so keeps the first `kept` bytes
-    /// of its piece, as far as the room goes. Of several plans for one number the first counts.
+    /// Keeps a place of so many bytes for the next `start` of the name, which uses it up. It replaces a
+    /// place that the name has, and makes no file.
+    ///
+    /// # Errors
+    ///
+    /// `NoMemory` where memory was refused: then nothing has changed.
+    pub fn make_room(&mut self, name: &str, bytes: u64) -> Result<(), NoMemory>
+        ensures ok { OnOk result (shown self.new ≡ record (shown self.old) { slots = with_slot name.now (kept_place bytes) (shown self.old).slots }) }
+        ensures err { OnErr result (shown self.new ≡ shown self.old) }
+    {
+        self.shelf.keep_place(name, bytes)
+    }
+
+    /// Plans that the call of this number fails. A call of `append` or `say` that fails so keeps the
+    /// first `kept` bytes of its piece, as far as the room goes. Of several plans for one number the
+    /// first counts.
     ///
     /// # Errors
     ///
@@ -85,16 +94,16 @@ impl MemDesk {
 
     /// The bytes of a file; `None` exactly where no file has this name.
     pub fn file(&self, name: &str) -> Option<&[u8]>
-        ensures { option_map (λ file. file.now) result ≡ (shown self.now).files name.now }
+        ensures { option_map (λ file. file.now) result ≡ file_bytes ((shown self.now).slots name.now) }
     {
-        self.files.get(name).map(|file| file.as_slice())
+        self.shelf.file(name)
     }
 
     /// The bytes said so far.
     pub fn said(&self) -> &[u8]
         ensures { result.now ≡ (shown self.now).said }
     {
-        &self.said
+        self.said.bytes()
     }
 
     /// Makes room for so many more bytes to be said.
@@ -107,10 +116,7 @@ impl MemDesk {
         ensures ok { OnOk result (shown self.new ≡ record (shown self.old) { room = (shown self.old).room + bytes }) }
         ensures err { OnErr result (shown self.new ≡ shown self.old) }
     {
-        let room = self.room.checked_add(bytes).ok_or(NoMemory)?;
-        self.said.reserve(room as usize)?;
-        self.room = room;
-        Ok(())
+        self.said.make_room(bytes)
     }
 
     // Counts a call, and tells how much it keeps where it is to fail.
@@ -122,12 +128,29 @@ impl MemDesk {
         planned(&self.fails, self.calls)
     }
 
-    // The load of this name failed: its count rises.
+    // A load failed: its count rises.
     fn fault_load(&mut self)
         ensures faults { shown self.new ≡ record (shown self.old) { faults = record (shown self.old).faults { load = counted (shown self.old).faults.load } } }
         ensures no_fall { (shown self.old).faults.load ≤ (shown self.new).faults.load }
     {
         self.load_faults = self.load_faults.saturating_add(1);
+    }
+
+    // A call of start or append failed: their count rises.
+    fn fault_write(&mut self)
+        ensures faults { shown self.new ≡ record (shown self.old) { faults = record (shown self.old).faults { write = counted (shown self.old).faults.write } } }
+        ensures no_fall { (shown self.old).faults.write ≤ (shown self.new).faults.write }
+    {
+        self.write_faults = self.write_faults.saturating_add(1);
+    }
+
+    // A start failed: no file is started.
+    fn fail_start(&mut self)
+        ensures after { shown self.new ≡ record (shown self.old) { started = None; faults = record (shown self.old).faults { write = counted (shown self.old).faults.write } } }
+        ensures no_fall { (shown self.old).faults.write ≤ (shown self.new).faults.write }
+    {
+        self.shelf.stop();
+        self.fault_write();
     }
 
     // A call of say failed: its count rises.
@@ -137,14 +160,104 @@ impl MemDesk {
     {
         self.say_faults = self.say_faults.saturating_add(1);
     }
+}
 
-    // Says bytes for which there is room.
-    fn keep(&mut self, bytes: &[u8])
-        requires { length bytes.now ≤ (shown self.old).room }
-        ensures { shown self.new ≡ record (shown self.old) { said = (shown self.old).said ++ bytes.now; room = (shown self.old).room - length bytes.now } }
+impl Desk for MemDesk {
+    ghost use Rattle.bx_desk.specs.Memory.{shown, seen, cannot_load, cannot_start, cannot_append, cannot_say, after_load, after_start, after_append, after_say};
+
+    ghost state = { λ d. seen (shown d) };
+
+    fn load(&mut self, name: &str, limit: u64, into: &mut Vec<u8>) -> Result<(), LoadFault>
+        requires { into.old.items ≡ [] }
+
+        ensures whole { OnOk result (IsFile (seen (shown self.old)).files name.now into.new.items) }
+        ensures within { OnOk result (vec_len into.new ≤ limit) }
+
+        // `TooLong`: the file begins with what the vector has, which is a byte past the limit.
+        ensures too_long { IsErrOf result LoadFault.TooLong → vec_len into.new ≡ limit + 1 }
+        ensures too_long_front { IsErrOf result LoadFault.TooLong → BeginsFile (seen (shown self.old)).files name.now into.new.items }
+
+        // The answer follows from the file, unless memory was refused or the desk failed.
+        ensures answer { IfSome (seen (shown self.old)).files (λ files.
+            LoadAnswers (seen (shown self.old)).faults (seen (shown self.new)).faults (load_answer limit (files name.now)) result) }
+
+        ensures failed_empty { IsErrOf result LoadFault.Failed → into.new.items ≡ [] }
+        ensures no_memory_empty { IsErrOf result LoadFault.NoMemory → into.new.items ≡ [] }
+
+        // Only `Failed` changes the desk, and then the count of failed loads alone.
+        ensures failed { IsErrOf result LoadFault.Failed → FailsToLoad (seen (shown self.old)) (seen (shown self.new)) }
+        ensures ok_stays { OnOk result (seen (shown self.new) ≡ seen (shown self.old)) }
+        ensures too_long_stays { IsErrOf result LoadFault.TooLong → seen (shown self.new) ≡ seen (shown self.old) }
+        ensures no_memory_stays { IsErrOf result LoadFault.NoMemory → seen (shown self.new) ≡ seen (shown self.old) }
+        // It fails just where it was told to, and where there is no such file.
+        ensures fails_exactly { IsErrOf result LoadFault.Failed ↔ IsTrue (cannot_load (shown self.old) name.now) }
+        ensures after { shown self.new ≡ after_load (shown self.old) name.now }
     {
-        self.room -= bytes.len() as u64;
-        self.said.extend_from_slice(bytes).unwrap();
+        let plan = self.next_call();
+        match readable(&self.shelf, plan, name) {
+            Some(file) => copy_within(file, limit, into),
+            None => {
+                self.fault_load();
+                Err(LoadFault::Failed)
+            }
+        }
+    }
+
+    fn start(&mut self, name: &str) -> Result<(), Failed>
+        ensures ok { OnOk result (Starts (seen (shown self.old)) (seen (shown self.new)) name.now) }
+        ensures err { OnErr result (FailsToStart (seen (shown self.old)) (seen (shown self.new)) name.now) }
+        // It fails just where it was told to, and where the name has no place.
+        ensures fails_exactly { IsErr result ↔ IsTrue (cannot_start (shown self.old) name.now) }
+        ensures after { shown self.new ≡ after_start (shown self.old) name.now }
+    {
+        if self.next_call().is_some() {
+            self.fail_start();
+            return Err(Failed);
+        }
+        if !self.shelf.start(name) {
+            self.fail_start();
+            return Err(Failed);
+        }
+        Ok(())
+    }
+
+    fn has_started(&self) -> bool {
+        self.shelf.has_started()
+    }
+
+    fn append(&mut self, piece: &[u8]) -> Result<(), Failed>
+        requires { IsSome (seen (shown self.old)).started }
+        ensures ok { OnOk result (Writes (seen (shown self.old)) (seen (shown self.new)) piece.now) }
+        ensures err { OnErr result (WritesFront (seen (shown self.old)) (seen (shown self.new)) piece.now) }
+        // It fails just where it was told to, and where there is no room for all of the piece.
+        ensures fails_exactly { IsErr result ↔ IsTrue (cannot_append (shown self.old) piece.now) }
+        ensures after { shown self.new ≡ after_append (shown self.old) piece.now }
+    {
+        let plan = self.next_call();
+        let room = self.shelf.room();
+        self.shelf.add(kept_front(plan, room, piece));
+        if is_refused(plan, room, piece) {
+            self.fault_write();
+            return Err(Failed);
+        }
+        Ok(())
+    }
+
+    fn say(&mut self, piece: &[u8]) -> Result<(), Failed>
+        ensures ok { OnOk result (Says (seen (shown self.old)) (seen (shown self.new)) piece.now) }
+        ensures err { OnErr result (SaysFront (seen (shown self.old)) (seen (shown self.new)) piece.now) }
+        // It fails just where it was told to, and where there is no room for all of the piece.
+        ensures fails_exactly { IsErr result ↔ IsTrue (cannot_say (shown self.old) piece.now) }
+        ensures after { shown self.new ≡ after_say (shown self.old) piece.now }
+    {
+        let plan = self.next_call();
+        let room = self.said.room();
+        self.said.add(kept_front(plan, room, piece));
+        if is_refused(plan, room, piece) {
+            self.fault_say();
+            return Err(Failed);
+        }
+        Ok(())
     }
 }
 
@@ -161,18 +274,34 @@ fn planned(plans: &[(u64, u64)], number: u64) -> Option<u64>
 }
 
 // The file of this name, but for a call that is to fail.
-fn readable<'a>(
-    files: &'a BTreeMap<String, Vec<u8>>,
-    plan: Option<u64>,
-    name: &str,
-) -> Option<&'a [u8]>
-    ensures { option_map (λ file. file.now) result
-        ≡ (if is_some plan then None else option_map (λ file. file.items) (get_by_text files.now name.now)) }
+fn readable<'a>(shelf: &'a Shelf, plan: Option<u64>, name: &str) -> Option<&'a [u8]>
+    ensures { option_map (λ file. file.now) result ≡ (if is_some plan then None else file_bytes (slots_of shelf.now name.now)) }
 {
     if plan.is_some() {
         return None;
     }
-    files.get(name).map(|file| file.as_slice())
+    shelf.file(name)
+}
+
+// Whether not all of a piece is taken: the call is to fail, or there is no room for it.
+fn is_refused(plan: Option<u64>, room: u64, piece: &[u8]) -> bool
+    ensures { result ≡ (is_some plan || nat_lt room (length piece.now)) }
+{
+    plan.is_some() || room < piece.len() as u64
+}
+
+// The front of a piece that is kept: all of it where the call isn't to fail and there is room.
+fn kept_front(plan: Option<u64>, room: u64, piece: &[u8]) -> &[u8]
+    ensures front { result.now ≡ kept_of plan room piece.now }
+    ensures fits { length result.now ≤ room }
+{
+    let size = piece.len() as u64;
+    let kept = match plan {
+        Some(kept) => kept.min(room).min(size),
+        None if room < size => 0,
+        None => size,
+    };
+    &piece[..kept as usize]
 }
 
 // Copies a file into an empty vector; of one past the limit, only its first limit + 1 bytes.
@@ -193,87 +322,6 @@ fn copy_within(file: &[u8], limit: u64, into: &mut Vec<u8>) -> Result<(), LoadFa
         Ok(())
     } else {
         Err(LoadFault::TooLong)
-    }
-}
-
-impl Desk for MemDesk {
-    ghost use Rattle.std.specs.Prelude.{Some};
-    ghost use Rattle.bx_desk.specs.Memory.{shown, cannot_load, cannot_say, after_load, after_say, kept_of, next_kept};
-
-    ghost files = { λ d. Some (shown d).files };
-
-    ghost said = { λ d. Some (shown d).said };
-
-    ghost faults = { λ d. (shown d).faults };
-
-    fn load(&mut self, name: &str, limit: u64, into: &mut Vec<u8>) -> Result<(), LoadFault>
-        requires { into.old.items ≡ [] }
-        ensures whole { OnOk result (IsFile (Some (shown self.old).files) name.now into.new.items) }
-        ensures within { OnOk result (vec_len into.new ≤ limit) }
-
-        // `TooLong`: the file begins with what the vector has, which is a byte past the limit.
-        ensures too_long { IsErrOf result LoadFault.TooLong → vec_len into.new ≡ limit + 1 }
-        ensures too_long_front { IsErrOf result LoadFault.TooLong → BeginsFile (Some (shown self.old).files) name.now into.new.items }
-        ensures too_long_no_fault { IsErrOf result LoadFault.TooLong → (shown self.new).faults ≡ (shown self.old).faults }
-
-        // The answer follows from the file, unless memory was refused or the desk failed.
-        ensures answer { IfSome (Some (shown self.old).files) (λ files.
-            LoadAnswers (shown self.old).faults (shown self.new).faults (load_answer limit (files name.now)) result) }
-
-        // A count rises only with `Failed`.
-        ensures failed { IsErrOf result LoadFault.Failed → Rose (shown self.old).faults.load (shown self.new).faults.load }
-        ensures ok_no_fault { OnOk result ((shown self.new).faults ≡ (shown self.old).faults) }
-        ensures no_memory_no_fault { IsErrOf result LoadFault.NoMemory → (shown self.new).faults ≡ (shown self.old).faults }
-
-        ensures failed_empty { IsErrOf result LoadFault.Failed → into.new.items ≡ [] }
-        ensures no_memory_empty { IsErrOf result LoadFault.NoMemory → into.new.items ≡ [] }
-
-        ensures counts { LoadCounts (shown self.old).faults (shown self.new).faults }
-        ensures files_stay { (shown self.new).files ≡ (shown self.old).files }
-        ensures said_stays { (shown self.new).said ≡ (shown self.old).said }
-        // It fails just where it was told to, and where there is no such file.
-        ensures fails_exactly { IsErrOf result LoadFault.Failed ↔ IsTrue (cannot_load (shown self.old) name.now) }
-        ensures state { shown self.new ≡ after_load (shown self.old) name.now }
-    {
-        let plan = self.next_call();
-        match readable(&self.files, plan, name) {
-            Some(file) => copy_within(file, limit, into),
-            None => {
-                self.fault_load();
-                Err(LoadFault::Failed)
-            }
-        }
-    }
-
-    fn say(&mut self, piece: &[u8]) -> Result<(), Failed>
-        ensures adds { OnOk result (Adds (Some (shown self.old).said) (Some (shown self.new).said) piece.now) }
-        ensures front { OnErr result (AddsFront (Some (shown self.old).said) (Some (shown self.new).said) piece.now) }
-        ensures failed { OnErr result (Rose (shown self.old).faults.say (shown self.new).faults.say) }
-        ensures ok_no_fault { OnOk result ((shown self.new).faults ≡ (shown self.old).faults) }
-        ensures counts { SayCounts (shown self.old).faults (shown self.new).faults }
-        ensures files_stay { (shown self.new).files ≡ (shown self.old).files }
-        // It fails just where it was told to, and where there is no room for all of the piece.
-        ensures fails_exactly { IsErr result ↔ IsTrue (cannot_say (shown self.old) piece.now) }
-        ensures state { shown self.new ≡ after_say (shown self.old) piece.now }
-    {
-        let plan = self.next_call();
-        let has_room = piece.len() as u64 <= self.room;
-        match plan {
-            None if has_room => {
-                self.keep(piece);
-                Ok(())
-            }
-            None => {
-                self.fault_say();
-                Err(Failed)
-            }
-            Some(kept) => {
-                let kept = kept.min(self.room).min(piece.len() as u64) as usize;
-                self.keep(&piece[..kept]);
-                self.fault_say();
-                Err(Failed)
-            }
-        }
     }
 }
 
@@ -342,6 +390,65 @@ mod tests {
             assert_eq!(rt; desk.say(b"abc"), answer, "{case}");
             assert_eq!(rt; desk.said(), said.as_bytes(), "{case}");
         }
+        Ok(())
+    }
+
+    // A row is a step, and then its answer, the file "c", and whether a file is started.
+    #[derive(Clone, Copy)]
+    enum Step {
+        Room(u64),
+        Start(&'static str),
+        Append(&'static [u8]),
+    }
+
+    use Step::{Append, Room, Start};
+
+    // A place of 4 bytes for "c". Call 4 is to keep one byte, call 7 none. What makes room is no call.
+    const STEPS: [(&str, Step, bool, Option<&str>, bool); 12] = [
+        ("started", Start("c"), true, Some(""), true),
+        ("written", Append(b"ab"), true, Some("ab"), true),
+        ("room lacking", Append(b"abc"), false, Some("ab"), true),
+        (
+            "planned to keep one",
+            Append(b"cd"),
+            false,
+            Some("abc"),
+            true,
+        ),
+        ("written to its end", Append(b"d"), true, Some("abcd"), true),
+        ("no place", Start("d"), false, Some("abcd"), false),
+        ("a place is no file", Room(3), true, Some("abcd"), false),
+        ("planned to fail", Start("c"), false, Some("abcd"), false),
+        ("started again", Start("c"), true, Some(""), true),
+        ("written again", Append(b"xyz"), true, Some("xyz"), true),
+        ("nothing fits", Append(b""), true, Some("xyz"), true),
+        ("place used up", Start("c"), false, Some("xyz"), false),
+    ];
+
+    #[test]
+    fn writes(rt: HostRuntime) -> Result<(), Fail> {
+        let mut desk = filled(rt.alloc())?;
+        desk.make_room("c", 9)?;
+        desk.make_room("c", 4)?;
+        desk.fail_at(4, 1)?;
+        desk.fail_at(7, 1)?;
+        assert_eq!(rt; desk.file("c"), None);
+        for (case, step, answer, file, has_started) in STEPS {
+            let result = match step {
+                Room(bytes) => desk.make_room("c", bytes).map_err(|_| Failed),
+                Start(name) => desk.start(name),
+                Append(piece) => {
+                    assert!(rt; desk.has_started(), "{case}");
+                    desk.append(piece)
+                }
+            };
+            assert_eq!(rt; result.is_ok(), answer, "{case}");
+            assert_eq!(rt; desk.file("c"), file.map(|file| file.as_bytes()), "{case}");
+            assert_eq!(rt; desk.has_started(), has_started, "{case}");
+        }
+        assert_eq!(rt; desk.file("d"), None);
+        assert_eq!(rt; desk.file("a"), Some(b"abcde".as_slice()));
+        assert_eq!(rt; desk.write_faults, 5);
         Ok(())
     }
 }

@@ -1,30 +1,49 @@
-//! A piece gathers what is to be said, so that a desk is called once for each full buffer and not
-//! once for each word. It takes no memory, and it hands its bytes on in the order in which they were
-//! put. When the last is put, `end` hands on the rest; without that call it is never said.
+//! A piece gathers what is to be said, or written to the started file, so that a desk is called once
+//! for each full buffer and not once for each word. It takes no memory, and it hands its bytes on in
+//! the order in which they were put. When the last is put, `end` hands on the rest; without that call
+//! it is never handed on. Which file is started is left to the caller.
 ghost use Rattle.std.specs.Prelude.{◌≡◌, ◌++◌, ◌+◌, ◌<◌, ◌%◌, [], length, OnOk, OnErr, decimal};
-ghost use Rattle.bx_desk.specs.Desk.{Rose, SayCounts};
+ghost use Rattle.bx_desk.specs.Desk.{DeskState, CanPut, Puts, PutsFront};
 
+use crate::target::Target;
 use crate::{Desk, Failed};
 
 /// How many bytes a piece holds before it hands them on.
 const CAPACITY: usize = 4096;
 
-/// A buffer of 4,096 bytes in front of a desk. After an error it is only to be dropped.
+/// A buffer of 4,096 bytes in front of a desk. After an error it is only to be dropped. One that was
+/// made by `to_file` is used only while a file is started.
 #[derive(Drop)]
 pub struct Piece {
+    target: Target,
     buffer: [u8; CAPACITY],
     len: usize,
     ghost room: { len < 4096 },
 }
 
 impl Piece {
-    ghost use Rattle.bx_desk.specs.Pieces.{pending, HandsOn};
+    ghost use Rattle.bx_desk.specs.Pieces.{pending, target_of, IsToSay, IsToFile, HandsOn};
 
     /// An empty piece, for bytes that are to be said.
     pub fn to_say() -> Self
-        ensures { pending result ≡ [] }
+        ensures target { IsToSay result }
+        ensures empty { pending result ≡ [] }
+        ensures can { (desk : DeskState) → CanPut (target_of result) desk }
     {
         Piece {
+            target: Target::Output,
+            buffer: [0; CAPACITY],
+            len: 0,
+        }
+    }
+
+    /// An empty piece, for bytes that go to the end of the started file.
+    pub fn to_file() -> Self
+        ensures target { IsToFile result }
+        ensures empty { pending result ≡ [] }
+    {
+        Piece {
+            target: Target::File,
             buffer: [0; CAPACITY],
             len: 0,
         }
@@ -34,22 +53,21 @@ impl Piece {
     ///
     /// # Errors
     ///
-    /// `Failed` where the desk could not say all of a full buffer.
+    /// `Failed` where the desk could not take all of a full buffer.
     pub fn put<D: Desk>(&mut self, bytes: &[u8], desk: &mut D) -> Result<(), Failed>
-        ensures said { HandsOn result (D.said desk.old) (D.said desk.new) (pending self.old ++ bytes.now) (pending self.new) }
+        requires { CanPut (target_of self.old) (D.state desk.old) }
+        ensures hands_on { HandsOn result (target_of self.old) (D.state desk.old) (D.state desk.new) (pending self.old ++ bytes.now) (pending self.new) }
         ensures whole_buffers { OnOk result (length (pending self.new) ≡ (length (pending self.old) + length bytes.now) % 4096) }
-        ensures failed { OnErr result (Rose (D.faults desk.old).say (D.faults desk.new).say) }
-        ensures ok_no_fault { OnOk result (D.faults desk.new ≡ D.faults desk.old) }
         // Without a full buffer the desk isn't called.
         ensures quiet { length (pending self.old) + length bytes.now < 4096 → desk.new ≡ desk.old }
-        ensures counts { SayCounts (D.faults desk.old) (D.faults desk.new) }
-        ensures files_stay { D.files desk.new ≡ D.files desk.old }
+        ensures target_stays { target_of self.new ≡ target_of self.old }
+        ensures can { CanPut (target_of self.new) (D.state desk.new) }
     {
         let mut rest = bytes;
         while rest.len() >= CAPACITY - self.len {
             let (now, later) = rest.split_at(CAPACITY - self.len);
             self.buffer[self.len..].copy_from_slice(now);
-            desk.say(&self.buffer)?;
+            hand_on(self.target, &self.buffer, desk)?;
             self.len = 0;
             rest = later;
         }
@@ -65,12 +83,12 @@ impl Piece {
     ///
     /// Those of `put`.
     pub fn put_number<D: Desk>(&mut self, n: u64, desk: &mut D) -> Result<(), Failed>
-        ensures said { HandsOn result (D.said desk.old) (D.said desk.new) (pending self.old ++ decimal n) (pending self.new) }
+        requires { CanPut (target_of self.old) (D.state desk.old) }
+        ensures hands_on { HandsOn result (target_of self.old) (D.state desk.old) (D.state desk.new) (pending self.old ++ decimal n) (pending self.new) }
         ensures whole_buffers { OnOk result (length (pending self.new) ≡ (length (pending self.old) + length (decimal n)) % 4096) }
-        ensures failed { OnErr result (Rose (D.faults desk.old).say (D.faults desk.new).say) }
-        ensures ok_no_fault { OnOk result (D.faults desk.new ≡ D.faults desk.old) }
-        ensures counts { SayCounts (D.faults desk.old) (D.faults desk.new) }
-        ensures files_stay { D.files desk.new ≡ D.files desk.old }
+        ensures quiet { length (pending self.old) + length (decimal n) < 4096 → desk.new ≡ desk.old }
+        ensures target_stays { target_of self.new ≡ target_of self.old }
+        ensures can { CanPut (target_of self.new) (D.state desk.new) }
     {
         let mut digits = itoa::Buffer::new();
         self.put(digits.format(n).as_bytes(), desk)
@@ -80,79 +98,36 @@ impl Piece {
     ///
     /// # Errors
     ///
-    /// `Failed` where the desk could not say all of it.
+    /// `Failed` where the desk could not take all of it.
     pub fn end<D: Desk>(&mut self, desk: &mut D) -> Result<(), Failed>
-        ensures said { HandsOn result (D.said desk.old) (D.said desk.new) (pending self.old) [] }
+        requires { CanPut (target_of self.old) (D.state desk.old) }
+        ensures hands_on { HandsOn result (target_of self.old) (D.state desk.old) (D.state desk.new) (pending self.old) [] }
         ensures empty { OnOk result (pending self.new ≡ []) }
-        ensures failed { OnErr result (Rose (D.faults desk.old).say (D.faults desk.new).say) }
-        ensures ok_no_fault { OnOk result (D.faults desk.new ≡ D.faults desk.old) }
         // With nothing pending the desk isn't called.
         ensures quiet { pending self.old ≡ [] → desk.new ≡ desk.old }
-        ensures counts { SayCounts (D.faults desk.old) (D.faults desk.new) }
-        ensures files_stay { D.files desk.new ≡ D.files desk.old }
+        ensures target_stays { target_of self.new ≡ target_of self.old }
+        ensures can { CanPut (target_of self.new) (D.state desk.new) }
     {
         if self.len > 0 {
-            desk.say(&self.buffer[..self.len])?;
+            hand_on(self.target, &self.buffer[..self.len], desk)?;
             self.len = 0;
         }
         Ok(())
     }
 }
 
-#[cfg(test)]
-mod tests {
-    use super::*;
-    use crate::MemDesk;
-    use std::alloc::Global;
-    use std::test::Fail;
-
-    // More than two buffers' worth of bytes, in which no two neighbours are the same.
-    fn text(alloc: Global) -> Result<Vec<u8>, Fail> {
-        let mut text = Vec::new(alloc);
-        for n in 0..10_000u32 {
-            text.push((n % 251) as u8)?;
-        }
-        Ok(text)
-    }
-
-    // Puts the text in parts of this size, and then two numbers.
-    fn put_all(text: &[u8], size: usize, desk: &mut MemDesk) -> Result<(), Failed>
-        requires { 0 < size }
-    {
-        let mut piece = Piece::to_say();
-        for part in text.chunks(size) {
-            piece.put(part, desk)?;
-        }
-        piece.put_number(0, desk)?;
-        piece.put_number(u64::MAX, desk)?;
-        piece.end(desk)
-    }
-
-    #[test]
-    fn says_what_was_put(rt: HostRuntime) -> Result<(), Fail> {
-        let text = text(rt.alloc())?;
-        let mut want = text.clone()?;
-        want.extend_from_slice(b"018446744073709551615")?;
-        for size in [1usize, 7, 4095, 4096, 4097, 10_000] {
-            let mut desk = MemDesk::new(rt.alloc());
-            desk.say_room(20_000)?;
-            assert!(rt; size > 0);
-            assert_eq!(rt; put_all(&text, size, &mut desk), Ok(()), "parts of {size}");
-            assert_eq!(rt; desk.said(), want.as_slice(), "parts of {size}");
-        }
-        Ok(())
-    }
-
-    #[test]
-    fn a_failure_leaves_a_front(rt: HostRuntime) -> Result<(), Fail> {
-        let text = text(rt.alloc())?;
-        assert_eq!(rt; text.len(), 10_000);
-        let (front, _) = text.split_at(4096 + 5);
-        let mut desk = MemDesk::new(rt.alloc());
-        desk.say_room(20_000)?;
-        desk.fail_at(2, 5)?;
-        assert_eq!(rt; put_all(&text, 7, &mut desk), Err(Failed));
-        assert_eq!(rt; desk.said(), front);
-        Ok(())
+// Hands bytes on to where they go.
+fn hand_on<D: Desk>(target: Target, bytes: &[u8], desk: &mut D) -> Result<(), Failed>
+    requires { CanPut target (D.state desk.old) }
+    ensures ok { OnOk result (Puts target (D.state desk.old) (D.state desk.new) bytes.now) }
+    ensures err { OnErr result (PutsFront target (D.state desk.old) (D.state desk.new) bytes.now) }
+    ensures can { CanPut target (D.state desk.new) }
+{
+    match target {
+        Target::Output => desk.say(bytes),
+        Target::File => desk.append(bytes),
     }
 }
+
+#[cfg(test)]
+mod tests;

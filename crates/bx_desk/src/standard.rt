@@ -4,7 +4,6 @@
 //! standard output is left to tests.
 ghost use Rattle.std.specs.Prelude.{◌≡◌, ◌+◌, ◌<◌, ◌≤◌, ◌++◌, [], ℕ, List, length, vec_len, IfSome, OnOk, OnErr, IsErrOf, Option, None};
 ghost use Rattle.std.specs.Io.KnownBytes.{Appends};
-ghost use Rattle.bx_desk.specs.Desk.{Counts};
 ghost use Rattle.bx_desk.specs.Standard.{AppendsFront};
 
 use crate::{Desk, Failed, LoadFault};
@@ -17,36 +16,41 @@ const CHUNK: usize = 16384;
 
 /// Real files and standard output.
 #[derive(Drop)]
-pub struct StdDesk<'a, R> {
+pub struct StdDesk<'a, R: Files> {
     rt: &'a R,
+    started: Option<R::File>,
     load_faults: u64,
+    write_faults: u64,
     say_faults: u64,
 }
 
 impl<'a, R: Files + Print> StdDesk<'a, R> {
-    ghost use Rattle.bx_desk.specs.Standard.{counts};
-
-    /// A desk that has not failed yet. Takes no memory.
+    /// A desk that has started no file and has not failed yet. Takes no memory.
     pub fn new(rt: &'a R) -> Self
-        ensures { counts result ≡ record { load = 0; say = 0 } }
+        ensures started { result.started ≡ None }
+        ensures load_faults { result.load_faults ≡ 0 }
+        ensures write_faults { result.write_faults ≡ 0 }
+        ensures say_faults { result.say_faults ≡ 0 }
     {
         StdDesk {
             rt,
+            started: None,
             load_faults: 0,
+            write_faults: 0,
             say_faults: 0,
         }
     }
 }
 
 impl<R: Files + Print> Desk for StdDesk<'_, R> {
-    ghost use Rattle.std.specs.Prelude.{None};
-    ghost use Rattle.bx_desk.specs.Standard.{counts};
+    ghost use Rattle.std.specs.Prelude.{None, option_map};
 
-    ghost files = { λ _. None };
-
-    ghost said = { λ _. None };
-
-    ghost faults = { counts };
+    ghost state = { λ d. record {
+      files = None;
+      started = option_map (λ _. None) d.started;
+      said = None;
+      faults = record { load = d.load_faults; write = d.write_faults; say = d.say_faults };
+    } };
 
     fn load(&mut self, name: &str, limit: u64, into: &mut Vec<u8>) -> Result<(), LoadFault> {
         let result = match fs::open(self.rt, name) {
@@ -55,6 +59,30 @@ impl<R: Files + Print> Desk for StdDesk<'_, R> {
         };
         if let Err(LoadFault::Failed) = result {
             self.load_faults = self.load_faults.saturating_add(1);
+        }
+        result
+    }
+
+    fn start(&mut self, name: &str) -> Result<(), Failed> {
+        self.started = fs::create(self.rt, name).ok();
+        if self.started.is_none() {
+            self.write_faults = self.write_faults.saturating_add(1);
+            return Err(Failed);
+        }
+        Ok(())
+    }
+
+    fn has_started(&self) -> bool {
+        self.started.is_some()
+    }
+
+    fn append(&mut self, piece: &[u8]) -> Result<(), Failed> {
+        let result = match &mut self.started {
+            Some(file) => write_whole(file, piece),
+            None => unreachable!(),
+        };
+        if result.is_err() {
+            self.write_faults = self.write_faults.saturating_add(1);
         }
         result
     }
@@ -162,7 +190,11 @@ mod tests {
             assert_eq!(rt; result, answer, "{case}");
             assert_eq!(rt; into.len(), len, "{case}");
             assert!(rt; bytes.starts_with(&into), "{case}");
-            assert_eq!(rt; (desk.load_faults, desk.say_faults), (faults, 0), "{case}");
+            assert_eq!(rt;
+                (desk.load_faults, desk.write_faults, desk.say_faults),
+                (faults, 0, 0),
+                "{case}"
+            );
         }
         Ok(())
     }
@@ -171,6 +203,57 @@ mod tests {
     fn says(rt: HostRuntime) {
         let mut desk = StdDesk::new(&rt);
         assert_eq!(rt; desk.say(b"said by a test\n"), Ok(()));
+        assert_eq!(rt;
+            (desk.load_faults, desk.write_faults, desk.say_faults),
+            (0, 0, 0)
+        );
+    }
+
+    #[test]
+    fn writes(rt: HostRuntime) -> Result<(), Fail> {
+        let alloc = rt.alloc();
+        let temporary = env::temp_dir(&rt)?.into_string();
+        let folder = format!(in alloc; "{temporary}/bx_desk_{}_files", process::id(rt.process()))?;
+        let file = format!(in alloc; "{folder}/written")?;
+        let long = vec![in alloc; b'x'; 3 * CHUNK]?;
+        fs::create_dir(&rt, folder.as_str())?;
+
+        let mut desk = StdDesk::new(&rt);
+        assert!(rt; !desk.has_started());
+        assert_eq!(rt; desk.start(file.as_str()), Ok(()));
+        assert_eq!(rt; fs::read(&rt, file.as_str())?.len(), 0);
+        for piece in [b"one".as_slice(), b"", b", two".as_slice(), long.as_slice()] {
+            assert!(rt; desk.has_started());
+            assert_eq!(rt; desk.append(piece), Ok(()));
+        }
+        let written = fs::read(&rt, file.as_str())?;
+        assert!(rt; written.starts_with(b"one, two".as_slice()));
+        assert!(rt; written.ends_with(long.as_slice()));
+        assert_eq!(rt; written.len(), 8 + long.len());
+
+        // Started again, it is emptied and written from its beginning.
+        assert_eq!(rt; desk.start(file.as_str()), Ok(()));
+        assert!(rt; desk.has_started());
+        assert_eq!(rt; desk.append(b"new"), Ok(()));
+        assert_eq!(rt; fs::read(&rt, file.as_str())?.as_slice(), b"new".as_slice());
+        assert_eq!(rt; desk.write_faults, 0);
+
+        // A folder in the place of a file: no file is started, and the one before stays as it is.
+        assert_eq!(rt; desk.start(folder.as_str()), Err(Failed));
+        assert!(rt; !desk.has_started());
+        assert_eq!(rt; fs::read(&rt, file.as_str())?.as_slice(), b"new".as_slice());
+        assert_eq!(rt; desk.write_faults, 1);
+
+        if fs::exists(&rt, "/dev/full")? {
+            assert_eq!(rt; desk.start("/dev/full"), Ok(()));
+            assert!(rt; desk.has_started());
+            assert_eq!(rt; desk.append(b"lost"), Err(Failed));
+            assert!(rt; desk.has_started());
+            assert_eq!(rt; desk.write_faults, 2);
+        }
         assert_eq!(rt; (desk.load_faults, desk.say_faults), (0, 0));
+        fs::remove_file(&rt, file.as_str())?;
+        fs::remove_dir(&rt, folder.as_str())?;
+        Ok(())
     }
 }

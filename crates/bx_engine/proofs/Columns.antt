@@ -204,6 +204,8 @@ at-first k t e = subst (λ (n : ℕ). Holds (column k) n Input) (sym e) (holds-f
 
 pub column-sound : (k : ℕ) → IsSound (column k)
 column-sound k = record {
+  wide = omega arith;
+  high = omega arith;
   meets = λ t side h. meets-column k t side (omega arith);
   stays = λ t side h s. stays-column k t side (omega arith) s;
   inputs = λ t h i. y_of-column k t ∙ input-only k t (omega arith) i;
@@ -279,6 +281,8 @@ tile-column k t h = get_or-map-range_with_len (λ y. Some (column_form k y)) 0 (
 
 pub column-whole : (k : ℕ) → IsFormGrid (column k)
 column-whole k = record {
+  wide = omega arith;
+  high = omega arith;
   whole = let e = length-column k in omega arith;
   forms = λ t form e. elim (cases_lt t (k + 2)) [
     | inl l ↦

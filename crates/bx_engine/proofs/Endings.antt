@@ -1,47 +1,51 @@
--- A text that was said and handed on, and what the end of a run says then.
-use Rattle.std.proofs.Common.{◌≡◌, ℕ, List, [], ◌++◌, ◌≤◌, Option, Result, Ok, Err, sym, ◌∙◌, subst, arith}
+-- A text that was put out to be said, and what the end of a run says then.
+use Rattle.std.proofs.Common.{◌≡◌, ℕ, List, [], ◌++◌, Result, Ok, Err, sym, ◌∙◌, ap, subst, refl}
 use Rattle.std.proofs.lemmas.List.{append-nil}
-use Rattle.std.specs.Prelude.{OnOk, OnErr}
-use Rattle.bx_desk.specs.Desk.{Files, Counts, Rose, Adds, AddsUpTo}
-use Rattle.bx_desk.specs.Pieces.{HandsOn}
+use Rattle.bx_desk.specs.Desk.{DeskState, Says, SaysFront, PutsFront}
+use Rattle.bx_desk.specs.Pieces.{pending, target_of, PutsUpTo, HandsOn}
 use Rattle.bx_desk.specs.declared.desk.Failed.{Failed}
-use Rattle.bx_desk.proofs.Said.{adds_piece, adds_front}
+use Rattle.bx_desk.specs.declared.piece.Piece.{Piece}
+use Rattle.bx_desk.specs.declared.target.Target.{Target}
+use Rattle.bx_desk.specs.declared.target.Target.TheVariants.{Output}
+use Rattle.bx_desk.proofs.Put.{puts_piece, puts_front}
 use Rattle.bx_engine.specs.declared.status.Status.{Status}
 use Rattle.bx_engine.specs.declared.status.Status.TheVariants.{WriteFault}
-use Rattle.bx_engine.specs.declared.status.Which.TheVariants.{Output}
-use Rattle.bx_engine.specs.Says.{Says}
-use Rattle.bx_engine.specs.Endings.{Ends, done, failed, EndsSaying}
+use Rattle.bx_engine.specs.declared.status.Which.TheVariants.{Output as OfOutput}
+use Rattle.bx_engine.specs.Says.{PutsOut}
+use Rattle.bx_engine.specs.Endings.{EndsSaying, done, failed}
 
 -- all of the text was said
-pub adds_all : (old new : Option (List ℕ)) (text : List ℕ) → AddsUpTo old new text [] → Adds old new text
-adds_all old new text h = subst (λ (xs : List ℕ). Adds old new xs) (sym (append-nil h.added) ∙ h.split) h.adds
+pub says_all : (old new : DeskState) (text : List ℕ) → PutsUpTo Output old new text [] → Says old new text
+says_all old new text h = subst (λ (xs : List ℕ). Says old new xs) (sym (append-nil h.done) ∙ h.split) h.puts
+
+-- what a piece held was handed on at its end, or a front of it
+pub ends_well : (old new : DeskState) (target : Target) (held : List ℕ) (status : Status) → target ≡ Output → PutsUpTo target old new held [] → EndsSaying old new status held status
+ends_well old new target held status is h = done (says_all old new held (subst (λ (t : Target). PutsUpTo t old new held []) is h))
+
+pub ends_badly : (old new : DeskState) (target : Target) (held : List ℕ) (status : Status) → target ≡ Output → PutsFront target old new held → EndsSaying old new status held (WriteFault OfOutput)
+ends_badly old new target held status is h = failed (subst (λ (t : Target). PutsFront t old new held) is h)
 
 -- a text was put out but for what is held, and that is said or not
-then_held : (s0 s1 s2 : Option (List ℕ)) (f0 f1 f2 : ℕ) (status : Status) (text held : List ℕ) (result : Status) → Ends s1 s2 f1 f2 status held result → AddsUpTo s0 s1 text (held ++ []) → f0 ≤ f1 → Ends s0 s2 f0 f2 status text result
-then_held s0 s1 s2 f0 f1 f2 status text held result (done adds) up le = done (adds_all s0 s2 text (adds_piece s0 s1 s2 text held [] up adds))
-then_held s0 s1 s2 f0 f1 f2 status text held result (failed front rose) up le = failed (adds_front s0 s1 s2 text held [] up front) (omega arith)
+then_held : (s0 s1 s2 : DeskState) (status : Status) (text held : List ℕ) (result : Status) → EndsSaying s1 s2 status held result → PutsUpTo Output s0 s1 text (held ++ []) → EndsSaying s0 s2 status text result
+then_held s0 s1 s2 status text held result (done says) up = done (says_all s0 s2 text (puts_piece Output Output refl s0 s1 s2 text held [] up says))
+then_held s0 s1 s2 status text held result (failed front) up = failed (puts_front Output Output refl s0 s1 s2 text held [] up front)
 
-module _ {D : Type 0} (files : D → Option Files) (said : D → Option (List ℕ)) (faults : D → Counts) where
-  -- a text was put out, and what was held of it is said or not
-  pub says_ends : {T : Type 0} (old mid new : D) (first : Result T Failed) (u : T) (result status : Status) (held text : List ℕ) → first ≡ Ok u → Says files said faults old mid first [] held text → EndsSaying files said faults mid new result status held → EndsSaying files said faults old new result status text
-  says_ends {T} old mid new first u result status held text ok a b =
-      let up : AddsUpTo (said old) (said mid) text held = subst (λ (r : Result T Failed). HandsOn r (said old) (said mid) text held) ok a.hands_on in
-      record {
-        ends = then_held (said old) (said mid) (said new) (faults old).say (faults mid).say (faults new).say status text held result b.ends (subst (λ (xs : List ℕ). AddsUpTo (said old) (said mid) text xs) (sym (append-nil held)) up) a.counts.say;
-        settled = λ is. b.settled is ∙ subst (λ (r : Result T Failed). OnOk r (faults mid ≡ faults old)) ok a.ok_no_fault;
-        counts = record { load = b.counts.load ∙ a.counts.load; say = omega arith };
-        files_stay = b.files_stay ∙ a.files_stay;
-      }
+-- what a new piece, which is to be said, put out
+said_first : {T : Type 0} (old new : DeskState) (r : Result T Failed) (p0 p1 : Piece) (t : List ℕ) → pending p0 ≡ [] → target_of p0 ≡ Output → PutsOut old new r p0 p1 t → HandsOn r Output old new t (pending p1)
+said_first {T} old new r p0 p1 t empty is h =
+    subst (λ (x : Target). HandsOn r x old new t (pending p1)) is (subst (λ (xs : List ℕ). HandsOn r (target_of p0) old new (xs ++ t) (pending p1)) empty h.hands_on)
 
-  -- a text that couldn't be put out
-  pub says_ends_failed : {T : Type 0} (old new : D) (first : Result T Failed) (e : Failed) (status : Status) (held text : List ℕ) → first ≡ Err e → Says files said faults old new first [] held text → EndsSaying files said faults old new (WriteFault Output) status text
-  says_ends_failed {T} old new first e status held text err a = record {
-    ends = failed (subst (λ (r : Result T Failed). HandsOn r (said old) (said new) text held) err a.hands_on) (subst (λ (r : Result T Failed). OnErr r (Rose (faults old).say (faults new).say)) err a.failed);
-    settled = λ is. absurd is;
-    counts = a.counts;
-    files_stay = a.files_stay;
-  }
+-- a text was put out through a new piece, and what was held of it is said or not
+pub says_ends : {T : Type 0} (old mid new : DeskState) (first : Result T Failed) (u : T) (result status : Status) (p0 p1 : Piece) (text : List ℕ) → pending p0 ≡ [] → target_of p0 ≡ Output → first ≡ Ok u → PutsOut old mid first p0 p1 text → EndsSaying mid new status (pending p1) result → EndsSaying old new status text result
+says_ends {T} old mid new first u result status p0 p1 text empty is ok a b =
+    let up : PutsUpTo Output old mid text (pending p1) = subst (λ (r : Result T Failed). HandsOn r Output old mid text (pending p1)) ok (said_first old mid first p0 p1 text empty is a) in
+    then_held old mid new status text (pending p1) result b (subst (λ (xs : List ℕ). PutsUpTo Output old mid text xs) (sym (append-nil (pending p1))) up)
 
-  -- the same status in another shape
-  pub ends_as : (old new : D) (result status other : Status) (text : List ℕ) → status ≡ other → EndsSaying files said faults old new result status text → EndsSaying files said faults old new result other text
-  ends_as old new result status other text e h = subst (λ (s : Status). EndsSaying files said faults old new result s text) e h
+-- a text that couldn't be put out
+pub says_ends_failed : {T : Type 0} (old new : DeskState) (first : Result T Failed) (e : Failed) (status : Status) (p0 p1 : Piece) (text : List ℕ) → pending p0 ≡ [] → target_of p0 ≡ Output → first ≡ Err e → PutsOut old new first p0 p1 text → EndsSaying old new status text (WriteFault OfOutput)
+says_ends_failed {T} old new first e status p0 p1 text empty is err a =
+    failed (subst (λ (r : Result T Failed). HandsOn r Output old new text (pending p1)) err (said_first old new first p0 p1 text empty is a))
+
+-- the same status in another shape
+pub ends_as : (old new : DeskState) (result status other : Status) (text : List ℕ) → status ≡ other → EndsSaying old new status text result → EndsSaying old new other text result
+ends_as old new result status other text e h = subst (λ (s : Status). EndsSaying old new s text result) e h

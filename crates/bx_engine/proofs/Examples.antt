@@ -51,6 +51,8 @@ conjoined-stays t side h =
 
 pub conjoined-sound : IsSound conjoined
 conjoined-sound = record {
+  wide = omega arith;
+  high = omega arith;
   meets = conjoined-meets;
   stays = conjoined-stays;
   inputs = each-below 6 (λ t. Holds conjoined t Input → y_of conjoined.ratio t ≡ 0)

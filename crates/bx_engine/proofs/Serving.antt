@@ -1,7 +1,7 @@
 -- From how a run's steps end to the answer that the words and the file give.
 use Rattle.std.proofs.Common.{◌≡◌, ℕ, List, Option, Some, None, refl, sym, ◌∙◌, ap, subst}
 use Rattle.std.specs.Prelude.{String, IsSome, option_and_then}
-use Rattle.bx_desk.specs.Desk.{Files, Counts, Rose, IsFile}
+use Rattle.bx_desk.specs.Desk.{Files, DeskState, IsFile, Says, SaysFront}
 use Rattle.bx_logic.specs.Nets.{Netlist}
 use Rattle.bx_syntax.specs.Parts.{ModuleTree}
 use Rattle.bx_verilog.specs.Formulas.{Text}
@@ -13,8 +13,8 @@ use Rattle.bx_engine.specs.Columns.{column}
 use Rattle.bx_engine.specs.Texts.{refusal_text, input_fault_text}
 use Rattle.bx_engine.specs.Reports.{report_of}
 use Rattle.bx_engine.specs.Runs.{net_word, net_text, IsRefused, HasText, IsThere, IsAnswer, refused, laid_out}
-use Rattle.bx_engine.specs.Endings.{Ends, done, failed, EndsSaying, ReadsLayout}
-use Rattle.bx_engine.specs.Serves.{Outcome, answered, unsaid, Serves}
+use Rattle.bx_engine.specs.Endings.{EndsSaying, done, failed, ReadsLayout}
+use Rattle.bx_engine.specs.Serves.{Outcome, answered, unsaid}
 
 -- a file of which a text is told is there
 there_is : (net text : Text) (told : Option Files) → IsFile told net text → IsThere told net
@@ -47,16 +47,7 @@ module _ {A : Type 0} (words : List (String A)) (net : Text) (named : net_word w
       (subst (λ (n : Netlist). IsAnswer words told (Found (column k).ratio) (report_of n k)) (sym h.has_layout.same)
       (laid_out net h.text tree k named (there_is net h.text told h.file) (has_text h.text h.file) h.has_layout.laid_out))
 
--- an answer whose text was said, or a front of it
-outcome_of : {A : Type 0} (words : List (String A)) (told : Option Files) (s0 s1 : Option (List ℕ)) (before mid now : Counts) (status result : Status) (text : Text) → IsAnswer words told status text → Ends s0 s1 mid.say now.say status text result → mid.say ≡ before.say → Outcome words told s0 s1 before now result
-outcome_of words told s0 s1 before mid now status result text is (done adds) same = answered status text is adds
-outcome_of words told s0 s1 before mid now status result text is (failed front rose) same = unsaid status text is front (subst (λ (n : ℕ). Rose n now.say) same rose)
-
-module _ {D A : Type 0} (files : D → Option Files) (said : D → Option (List ℕ)) (faults : D → Counts) where
-  -- the text of an answer was said, after a load or none
-  pub serves : (old mid new : D) (words : List (String A)) (status result : Status) (text : Text) → IsAnswer words (files old) status text → files mid ≡ files old → said mid ≡ said old → faults mid ≡ faults old → EndsSaying files said faults mid new result status text → Serves files said faults old new words result
-  serves old mid new words status result text is files_stay said_stays same h = record {
-    outcome = outcome_of words (files old) (said old) (said new) (faults old) (faults mid) (faults new) status result text is (subst (λ (s : Option (List ℕ)). Ends s (said new) (faults mid).say (faults new).say status text result) said_stays h.ends) (ap (λ (n : Counts). n.say) same);
-    settled = λ settled. h.settled settled ∙ same;
-    files_stay = h.files_stay ∙ files_stay;
-  }
+-- the text of an answer was said, or a front of it, after a load or none
+pub serves : {A : Type 0} (words : List (String A)) (old mid new : DeskState) (status result : Status) (text : Text) → IsAnswer words old.files status text → mid ≡ old → EndsSaying mid new status text result → Outcome words old new result
+serves words old mid new status result text is same (done says) = answered status text is (subst (λ (d : DeskState). Says d new text) same says)
+serves words old mid new status result text is same (failed front) = unsaid status text is (subst (λ (d : DeskState). SaysFront d new text) same front)

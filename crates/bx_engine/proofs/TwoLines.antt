@@ -25,6 +25,8 @@ record Joins (form : ℕ) : Type 0 where
 
 sound : (form : ℕ) → Joins form → IsSound (two_lines form)
 sound form j = record {
+  wide = omega arith;
+  high = omega arith;
   meets = λ t side h. each-side 6 (Meets (two_lines form)) j.meets t side h;
   stays = λ t side h. each-side 6 (Stays (two_lines form)) j.stays t side h;
   inputs = each-below 6 (λ t. Holds (two_lines form) t Input → y_of (two_lines form).ratio t ≡ 0)

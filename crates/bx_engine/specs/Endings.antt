@@ -1,7 +1,7 @@
 -- How the steps of a run end.
-use Rattle.std.specs.Prelude.{◌≡◌, ℕ, List, Option, ⊤}
+use Rattle.std.specs.Prelude.{◌≡◌, ℕ, Option, ⊤}
 use Rattle.bx_logic.specs.Nets.{Netlist}
-use Rattle.bx_desk.specs.Desk.{Files, Counts, Rose, SayCounts, Adds, AddsFront, IsFile}
+use Rattle.bx_desk.specs.Desk.{Files, DeskState, FailsToLoad, Says, SaysFront, IsFile}
 use Rattle.bx_lex.specs.declared.token.LexFault.{LexFault}
 use Rattle.bx_lex.specs.declared.token.LexFault.TheVariants.{NoMemory as LexNoMemory}
 use Rattle.bx_syntax.specs.declared.fault.ReadFault.{ReadFault}
@@ -16,21 +16,14 @@ use Rattle.bx_engine.specs.declared.status.Status.{Status}
 use Rattle.bx_engine.specs.declared.status.Status.TheVariants.{WriteFault}
 use Rattle.bx_engine.specs.declared.status.InputFault.TheVariants.{Lex, Read, Net}
 use Rattle.bx_engine.specs.declared.status.Which.TheVariants.{Output}
-use Rattle.bx_engine.specs.Statuses.{IsSettled}
 use Rattle.bx_engine.specs.Runs.{IsText, IsLaidOut, IsRefused}
 use Rattle.bx_engine.specs.declared.design.NoLayout.{NoLayout}
 use Rattle.bx_engine.specs.declared.design.NoLayout.TheVariants.{Fault, Unread, NoMemory}
 
 -- It ended with this status, and the text was said; or the desk failed, and a front of the text was said.
-pub data Ends (said said' : Option (List ℕ)) (before now : ℕ) (status : Status) (text : Text) : Status → Type 0 where
-  done : Adds said said' text → Ends said said' before now status text status
-  failed : AddsFront said said' text → Rose before now → Ends said said' before now status text (WriteFault Output)
-
-pub record EndsSaying {D : Type 0} (files : D → Option Files) (said : D → Option (List ℕ)) (faults : D → Counts) (old new : D) (result status : Status) (text : Text) : Type 0 where
-  pub ends : Ends (said old) (said new) (faults old).say (faults new).say status text result
-  pub settled : IsSettled result → faults new ≡ faults old
-  pub counts : SayCounts (faults old) (faults new)
-  pub files_stay : files new ≡ files old
+pub data EndsSaying (old new : DeskState) (status : Status) (text : Text) : Status → Type 0 where
+  done : Says old new text → EndsSaying old new status text status
+  failed : SaysFront old new text → EndsSaying old new status text (WriteFault Output)
 
 -- what a fault of a lower reader comes to
 abbrev pub lex_end : LexFault → NoLayout
@@ -71,7 +64,7 @@ TextEnds text Unread = ⊥
 TextEnds text NoMemory = ⊤
 
 -- why no layout was made of the file
-abbrev pub FileEnds : Option Files → Text → Counts → Counts → NoLayout → Type 0
-FileEnds told name before now (Fault fault) = (now ≡ before) × ((text : Text) × IsFile told name text × IsRefused text fault)
-FileEnds told name before now Unread = Rose before.load now.load
-FileEnds told name before now NoMemory = ⊤
+abbrev pub FileEnds : DeskState → DeskState → Text → NoLayout → Type 0
+FileEnds old new name (Fault fault) = (new ≡ old) × ((text : Text) × IsFile old.files name text × IsRefused text fault)
+FileEnds old new name Unread = FailsToLoad old new
+FileEnds old new name NoMemory = new ≡ old

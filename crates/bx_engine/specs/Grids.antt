@@ -1,5 +1,5 @@
 -- Form grids: when one is sound, what the values of its borders are, and when it computes a module.
-use Rattle.std.specs.Prelude.{◌≡◌, ◌==◌, ℕ, ◌+◌, ◌*◌, ◌<◌, Bool, false, if◌then◌else◌, IsTrue, List, [], ◌∷◌, ◌++◌, map, length, slice_index_or, Option, Some, None, IsSome, ◌⊎◌, Contains}
+use Rattle.std.specs.Prelude.{◌≡◌, ◌==◌, ℕ, ◌+◌, ◌*◌, ◌<◌, ◌≤◌, Bool, false, if◌then◌else◌, IsTrue, List, [], ◌∷◌, ◌++◌, map, length, slice_index_or, Option, Some, None, IsSome, ◌⊎◌, Contains}
 use Rattle.std.specs.List.{AllByRecursion}
 use Rattle.bx_logic.specs.Op.{first_value}
 use Rattle.bx_logic.specs.Lists.{AreDistinct}
@@ -21,8 +21,10 @@ pub record FormGrid : Type 0 where
   pub ratio : Ratio
   pub tiles : List (Option ℕ)
 
--- there are w * h tiles, and each form is one of the 28
+-- the sides are at least 1, there are w * h tiles, and each form is one of the 28
 pub record IsFormGrid (g : FormGrid) : Type 0 where
+  pub wide : 1 ≤ g.ratio.w
+  pub high : 1 ≤ g.ratio.h
   pub whole : length g.tiles ≡ tile_count g.ratio
   pub forms : (t form : ℕ) → slice_index_or g.tiles t None ≡ Some form → form < 28
 
@@ -64,6 +66,9 @@ abbrev pub IsEmpty : FormGrid → ℕ → Type 0
 IsEmpty g t = slice_index_or g.tiles t None ≡ None
 
 pub record IsSound (g : FormGrid) : Type 0 where
+  -- there is a tile
+  pub wide : 1 ≤ g.ratio.w
+  pub high : 1 ≤ g.ratio.h
   -- a tile takes on exactly those upper sides on which the tile above goes out
   pub meets : (t : ℕ) (side : Side) → IsTile g t → takes g t side ≡ sends_from g (above g.ratio t side) (opposite side)
   -- nothing leads off the grid

@@ -2,7 +2,6 @@
 //! module, the module gives its net, and a net that is a chain is laid out in a column. It promises the
 //! layout where there is one and else why there is none, and says nothing. Each step is another's.
 ghost use Rattle.std.specs.Prelude.{◌≡◌, ◌≤◌, length, IfOk, IfErr, OnOk};
-ghost use Rattle.bx_desk.specs.Desk.{LoadCounts};
 ghost use Rattle.bx_engine.specs.Columns.{column as column_of};
 ghost use Rattle.bx_engine.specs.Endings.{HasNet, HasLayout, ReadsLayout, TextEnds, FileEnds};
 ghost use Rattle.bx_engine.specs.Runs.{IsShort};
@@ -94,13 +93,10 @@ impl From<NoMemory> for NoLayout {
 
 /// Loads the file, reads its module and lays it out. It takes all the memory that a run takes.
 pub(crate) fn lay_out<D: Desk>(alloc: Global, name: &str, desk: &mut D) -> Result<Layout, NoLayout>
-    ensures layout { IfOk result (λ layout. ReadsLayout (D.files desk.old) name.now layout.net layout.inversions) }
+    ensures layout { IfOk result (λ layout. ReadsLayout (D.state desk.old).files name.now layout.net layout.inversions) }
     ensures grid { IfOk result (λ layout. layout.grid ≡ column_of layout.inversions) }
-    ensures err { IfErr result (FileEnds (D.files desk.old) name.now (D.faults desk.old) (D.faults desk.new)) }
-    ensures ok_no_fault { OnOk result (D.faults desk.new ≡ D.faults desk.old) }
-    ensures counts { LoadCounts (D.faults desk.old) (D.faults desk.new) }
-    ensures files_stay { D.files desk.new ≡ D.files desk.old }
-    ensures said_stays { D.said desk.new ≡ D.said desk.old }
+    ensures ok_stays { OnOk result (D.state desk.new ≡ D.state desk.old) }
+    ensures err { IfErr result (FileEnds (D.state desk.old) (D.state desk.new) name.now) }
 {
     let mut text = Vec::new(alloc);
     match desk.load(name, MODULE_BYTES, &mut text) {

@@ -4,8 +4,8 @@
 //! only where its cause stands, and where the cause stands nothing else comes but want of memory or a
 //! fault of the desk, which in turn come only where the desk's count of such faults rose.
 ghost use Rattle.std.specs.Prelude.{◌≡◌, ℕ, Some, None, Option, IsSome, option_map};
-ghost use Rattle.bx_desk.specs.Desk.{Rose, Adds, AddsFront};
-ghost use Rattle.bx_desk.specs.Pieces.{pending};
+ghost use Rattle.bx_desk.specs.Desk.{Rose, FailsToLoad, Says, SaysFront};
+ghost use Rattle.bx_desk.specs.Pieces.{pending, IsToSay};
 ghost use Rattle.bx_syntax.specs.Parts.{ModuleTree};
 ghost use Rattle.bx_verilog.specs.Formulas.{Text};
 ghost use Rattle.bx_verilog.specs.Equations.{module_of};
@@ -22,7 +22,7 @@ ghost use Rattle.bx_engine.specs.declared.status.Status.{Status as Ending};
 ghost use Rattle.bx_engine.specs.Statuses.{IsSettled};
 ghost use Rattle.bx_engine.specs.Texts.{refusal_text, word_fault_text, input_fault_text};
 ghost use Rattle.bx_engine.specs.Runs.{net_word as net_word_of, net_text, IsRefused, IsLaidOut, IsLayout, IsThere, IsAnswer};
-ghost use Rattle.bx_engine.specs.Serves.{Serves};
+ghost use Rattle.bx_engine.specs.Serves.{Outcome, NoneFell};
 
 use crate::design::{Layout, NoLayout, lay_out};
 use crate::refusal::{put_fault, put_refusal};
@@ -44,57 +44,60 @@ pub fn run<T: Threads + Sync, D: Desk, G: Gate + Sync>(
 ) -> Status
     // On every desk, also one that tells nothing of its files, a settled status is the answer to some text that
     // the file may have, and what goes with it was said.
-    ensures answered { IsSettled result → (text : Text) × IsAnswer words.now (D.files desk.old) result text × Adds (D.said desk.old) (D.said desk.new) text }
+    ensures answered { IsSettled result → (text : Text) × IsAnswer words.now (D.state desk.old).files result text × Says (D.state desk.old) (D.state desk.new) text }
 
     // The words are refused where they aren't `design` and a file, and only there.
     ensures words_only { result ≡ Status.Words WordFault.Command → net_word_of words.now ≡ None }
     ensures words { IsSettled result → net_word_of words.now ≡ None → result ≡ Status.Words WordFault.Command }
     ensures words_said { result ≡ Status.Words WordFault.Command
-        → Adds (D.said desk.old) (D.said desk.new) (refusal_text (word_fault_text WordFault.Command)) }
+        → Says (D.state desk.old) (D.state desk.new) (refusal_text (word_fault_text WordFault.Command)) }
 
     // A file is refused for what is first wrong with its text, at its place, and for nothing else.
-    ensures refused_only { (fault : Fault) → result ≡ Status.Refused fault → (text : Text) → net_text words.now (D.files desk.old) ≡ Some text
+    ensures refused_only { (fault : Fault) → result ≡ Status.Refused fault → (text : Text) → net_text words.now (D.state desk.old).files ≡ Some text
         → IsRefused text fault }
-    ensures refused { IsSettled result → (text : Text) → net_text words.now (D.files desk.old) ≡ Some text → (fault : Fault) → IsRefused text fault
+    ensures refused { IsSettled result → (text : Text) → net_text words.now (D.state desk.old).files ≡ Some text → (fault : Fault) → IsRefused text fault
         → result ≡ Status.Refused fault }
     ensures refused_said { (fault : Fault) → result ≡ Status.Refused fault
-        → Adds (D.said desk.old) (D.said desk.new) (refusal_text (input_fault_text fault)) }
+        → Says (D.state desk.old) (D.state desk.new) (refusal_text (input_fault_text fault)) }
 
     // A layout is found where the text is that of an accepted module whose net is a chain, and only there,
     // and its report is said.
-    ensures found_only { (ratio : Sides) → result ≡ Status.Found ratio → (text : Text) → net_text words.now (D.files desk.old) ≡ Some text
+    ensures found_only { (ratio : Sides) → result ≡ Status.Found ratio → (text : Text) → net_text words.now (D.state desk.old).files ≡ Some text
         → (m : ModuleTree) × (k : ℕ) × IsLaidOut text m k × (ratio ≡ (column_of k).ratio) }
-    ensures found { IsSettled result → (text : Text) → net_text words.now (D.files desk.old) ≡ Some text → (m : ModuleTree) (k : ℕ) → IsLaidOut text m k
+    ensures found { IsSettled result → (text : Text) → net_text words.now (D.state desk.old).files ≡ Some text → (m : ModuleTree) (k : ℕ) → IsLaidOut text m k
         → result ≡ Status.Found (column_of k).ratio }
-    ensures found_said { (ratio : Sides) → result ≡ Status.Found ratio → (text : Text) → net_text words.now (D.files desk.old) ≡ Some text
-        → (m : ModuleTree) (k : ℕ) → IsLaidOut text m k → Adds (D.said desk.old) (D.said desk.new) (report_of (net_of m) k) }
+    ensures found_said { (ratio : Sides) → result ≡ Status.Found ratio → (text : Text) → net_text words.now (D.state desk.old).files ≡ Some text
+        → (m : ModuleTree) (k : ℕ) → IsLaidOut text m k → Says (D.state desk.old) (D.state desk.new) (report_of (net_of m) k) }
 
     // What the report prints is a sound layout that computes the module, and on each earlier ratio some node is late.
-    ensures layout { (ratio : Sides) → result ≡ Status.Found ratio → (text : Text) → net_text words.now (D.files desk.old) ≡ Some text
+    ensures layout { (ratio : Sides) → result ≡ Status.Found ratio → (text : Text) → net_text words.now (D.state desk.old).files ≡ Some text
         → (m : ModuleTree) (k : ℕ) → IsLaidOut text m k → IsLayout (net_of m) (module_of m) (chain_network k) ratio (report_of (net_of m) k) }
 
     // A status that says anything of the file comes only where the file is there, and where nothing failed.
-    ensures there { IsSettled result → (net : Text) → net_word_of words.now ≡ Some net → IsThere (D.files desk.old) net }
-    ensures settled_no_fault { IsSettled result → D.faults desk.new ≡ D.faults desk.old }
+    ensures there { IsSettled result → (net : Text) → net_word_of words.now ≡ Some net → IsThere (D.state desk.old).files net }
+    ensures settled_no_fault { IsSettled result → (D.state desk.new).faults ≡ (D.state desk.old).faults }
 
-    // Faults of the desk come only where its counts rose, and want of memory says nothing.
+    // Faults of the desk come only where its counts rose. After a fault of reading nothing but the count of loads
+    // has changed, and after want of memory nothing at all: nothing was said, and nothing was tried to be said.
     ensures read_fault { (which : Place) → result ≡ Status.ReadFault which
-        → (which ≡ Which.NetFile) × IsSome (net_word_of words.now) × Rose (D.faults desk.old).load (D.faults desk.new).load }
-    ensures read_fault_said { (which : Place) → result ≡ Status.ReadFault which → D.said desk.new ≡ D.said desk.old }
+        → (which ≡ Which.NetFile) × IsSome (net_word_of words.now) × FailsToLoad (D.state desk.old) (D.state desk.new) }
     ensures write_fault { (which : Place) → result ≡ Status.WriteFault which
-        → (which ≡ Which.Output) × Rose (D.faults desk.old).say (D.faults desk.new).say }
+        → (which ≡ Which.Output) × Rose (D.state desk.old).faults.say (D.state desk.new).faults.say }
     ensures write_fault_said { (which : Place) → result ≡ Status.WriteFault which
-        → (status : Ending) × (text : Text) × IsAnswer words.now (D.files desk.old) status text × AddsFront (D.said desk.old) (D.said desk.new) text }
-    ensures no_memory_said { result ≡ Status.NoMemory → D.said desk.new ≡ D.said desk.old }
+        → (status : Ending) × (text : Text) × IsAnswer words.now (D.state desk.old).files status text × SaysFront (D.state desk.old) (D.state desk.new) text }
+    ensures no_memory_stays { result ≡ Status.NoMemory → D.state desk.new ≡ D.state desk.old }
 
-    ensures files_stay { D.files desk.new ≡ D.files desk.old }
+    // Whatever comes, no count falls, no file changes, and the started file is the same.
+    ensures none_fell { NoneFell (D.state desk.old).faults (D.state desk.new).faults }
+    ensures files_stay { (D.state desk.new).files ≡ (D.state desk.old).files }
+    ensures started_stays { (D.state desk.new).started ≡ (D.state desk.old).started }
 {
     serve(alloc, words, desk)
 }
 
 // What `run` does, in one clause.
 fn serve<D: Desk>(alloc: Global, words: &[String], desk: &mut D) -> Status
-    ensures { Serves D.files D.said D.faults desk.old desk.new words.now result }
+    ensures { Outcome words.now (D.state desk.old) (D.state desk.new) result }
 {
     let Some(net) = net_word(words) else {
         return refuse_words(desk);
@@ -121,7 +124,7 @@ fn net_word(words: &[String]) -> Option<&str>
 fn report<D: Desk>(layout: &Layout, desk: &mut D) -> Status
     requires chain { IsChain layout.now.net layout.now.inversions }
     requires laid_out { layout.now.grid ≡ column_of layout.now.inversions }
-    ensures { EndsSaying D.files D.said D.faults desk.old desk.new result (Status.Found layout.now.grid.ratio) (report_of layout.now.net layout.now.inversions) }
+    ensures { EndsSaying (D.state desk.old) (D.state desk.new) (Status.Found layout.now.grid.ratio) (report_of layout.now.net layout.now.inversions) result }
 {
     let mut piece = Piece::to_say();
     match put_report(
@@ -138,7 +141,7 @@ fn report<D: Desk>(layout: &Layout, desk: &mut D) -> Status
 
 // Says the refusal of an input.
 fn refuse<D: Desk>(desk: &mut D, fault: InputFault) -> Status
-    ensures { EndsSaying D.files D.said D.faults desk.old desk.new result (Status.Refused fault) (refusal_text (input_fault_text fault)) }
+    ensures { EndsSaying (D.state desk.old) (D.state desk.new) (Status.Refused fault) (refusal_text (input_fault_text fault)) result }
 {
     let mut piece = Piece::to_say();
     match put_fault(&fault, &mut piece, desk) {
@@ -149,7 +152,7 @@ fn refuse<D: Desk>(desk: &mut D, fault: InputFault) -> Status
 
 // Says the refusal of words that are no command.
 fn refuse_words<D: Desk>(desk: &mut D) -> Status
-    ensures { EndsSaying D.files D.said D.faults desk.old desk.new result (Status.Words WordFault.Command) (refusal_text (word_fault_text WordFault.Command)) }
+    ensures { EndsSaying (D.state desk.old) (D.state desk.new) (Status.Words WordFault.Command) (refusal_text (word_fault_text WordFault.Command)) result }
 {
     let mut piece = Piece::to_say();
     match put_refusal(b"words command", &[], &mut piece, desk) {
@@ -160,7 +163,8 @@ fn refuse_words<D: Desk>(desk: &mut D) -> Status
 
 // Hands on what a piece holds, and ends with the status if that is said.
 fn end<D: Desk>(mut piece: Piece, desk: &mut D, status: Status) -> Status
-    ensures { EndsSaying D.files D.said D.faults desk.old desk.new result status (pending piece) }
+    requires { IsToSay piece }
+    ensures { EndsSaying (D.state desk.old) (D.state desk.new) status (pending piece) result }
 {
     match piece.end(desk) {
         Ok(()) => status,

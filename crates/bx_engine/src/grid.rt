@@ -2,7 +2,7 @@
 //! inputs down to the outputs, and a signal goes only from a row to the next. A form grid holds a form
 //! or nothing on each tile, and promises no more than that: whether it is sound, and what it computes,
 //! is for the definitions to say.
-ghost use Rattle.std.specs.Prelude.{◌≡◌, ◌<◌, vec_len, slice_index_or};
+ghost use Rattle.std.specs.Prelude.{◌≡◌, ◌<◌, ◌≤◌, vec_len, slice_index_or};
 ghost use Rattle.bx_engine.specs.Tiles.{tile_count};
 
 use crate::forms::Form;
@@ -44,7 +44,7 @@ pub struct FormGrid {
 }
 
 impl Model for FormGrid {
-    ghost use Rattle.std.specs.Prelude.{◌≡◌, vec_len};
+    ghost use Rattle.std.specs.Prelude.{◌≡◌, ◌≤◌, vec_len};
     ghost use Rattle.bx_engine.specs.Tiles.{tile_count};
     ghost use Rattle.bx_engine.specs.Grids.{FormGrid as Grid};
 
@@ -52,7 +52,7 @@ impl Model for FormGrid {
 
     ghost view = { λ grid. record { ratio = grid.ratio; tiles = grid.tiles.items } };
 
-    ghost invariant = { λ grid. vec_len grid.tiles ≡ tile_count grid.ratio };
+    ghost invariant = { λ grid. (1 ≤ grid.ratio.w) × (1 ≤ grid.ratio.h) × (vec_len grid.tiles ≡ tile_count grid.ratio) };
 }
 
 impl FormGrid {
@@ -60,7 +60,9 @@ impl FormGrid {
 
     /// The grid with these tiles, row by row. Takes no memory.
     pub fn new(ratio: Ratio, tiles: Vec<Option<Form>>) -> FormGrid
-        requires { vec_len tiles ≡ tile_count ratio }
+        requires wide { 1 ≤ ratio.w }
+        requires high { 1 ≤ ratio.h }
+        requires whole { vec_len tiles ≡ tile_count ratio }
         ensures { result ≡ record { ratio = ratio; tiles = tiles.items } }
     {
         FormGrid { ratio, tiles }

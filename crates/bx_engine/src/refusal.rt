@@ -1,8 +1,9 @@
 //! The line of a refusal: what is wrong, in words, places and names. It promises the text that the
 //! definitions name for a fault; which fault an input has is left to its readers.
 ghost use Rattle.std.specs.Prelude.{◌≡◌, map, [], ◌∷◌, codes, decimal};
-ghost use Rattle.bx_desk.specs.Pieces.{pending};
-ghost use Rattle.bx_engine.specs.Says.{Says};
+ghost use Rattle.bx_desk.specs.Desk.{CanPut};
+ghost use Rattle.bx_desk.specs.Pieces.{target_of};
+ghost use Rattle.bx_engine.specs.Says.{PutsOut};
 ghost use Rattle.bx_engine.specs.Words.{word_text};
 ghost use Rattle.bx_engine.specs.Texts.{spaced, refusal_text, memory_text, which_text, construct_text, lex_fault_text, read_fault_text, net_fault_text, input_fault_text};
 
@@ -20,7 +21,8 @@ pub(crate) fn put_refusal<D: Desk>(
     piece: &mut Piece,
     desk: &mut D,
 ) -> Result<(), Failed>
-    ensures { Says D.files D.said D.faults desk.old desk.new result (pending piece.old) (pending piece.new)
+    requires { CanPut (target_of piece.old) (D.state desk.old) }
+    ensures { PutsOut (D.state desk.old) (D.state desk.new) result piece.old piece.new
         (refusal_text (spaced first.now (map word_text further.now))) }
 {
     put_word(Word::Text(b"refused"), piece, desk)?;
@@ -35,7 +37,8 @@ pub(crate) fn put_fault<D: Desk>(
     piece: &mut Piece,
     desk: &mut D,
 ) -> Result<(), Failed>
-    ensures { Says D.files D.said D.faults desk.old desk.new result (pending piece.old) (pending piece.new) (refusal_text (input_fault_text fault.now)) }
+    requires { CanPut (target_of piece.old) (D.state desk.old) }
+    ensures { PutsOut (D.state desk.old) (D.state desk.new) result piece.old piece.new (refusal_text (input_fault_text fault.now)) }
 {
     match fault {
         InputFault::TooLong(which) => {
@@ -61,7 +64,8 @@ fn which_word(which: Which) -> &'static [u8]
 
 // Puts out the line of the refusal of a text that has no tokens.
 fn put_lex_fault<D: Desk>(fault: LexFault, piece: &mut Piece, desk: &mut D) -> Result<(), Failed>
-    ensures { Says D.files D.said D.faults desk.old desk.new result (pending piece.old) (pending piece.new) (refusal_text (lex_fault_text fault)) }
+    requires { CanPut (target_of piece.old) (D.state desk.old) }
+    ensures { PutsOut (D.state desk.old) (D.state desk.new) result piece.old piece.new (refusal_text (lex_fault_text fault)) }
 {
     match fault {
         LexFault::BadByte(place) => put_lex_place(b"byte", place, piece, desk),
@@ -78,7 +82,8 @@ fn put_lex_place<D: Desk>(
     piece: &mut Piece,
     desk: &mut D,
 ) -> Result<(), Failed>
-    ensures { Says D.files D.said D.faults desk.old desk.new result (pending piece.old) (pending piece.new)
+    requires { CanPut (target_of piece.old) (D.state desk.old) }
+    ensures { PutsOut (D.state desk.old) (D.state desk.new) result piece.old piece.new
         (refusal_text (spaced (codes "lex") (what.now ∷ decimal place ∷ []))) }
 {
     put_refusal(
@@ -91,7 +96,8 @@ fn put_lex_place<D: Desk>(
 
 // Puts out the line of the refusal of tokens that are no module.
 fn put_read_fault<D: Desk>(fault: ReadFault, piece: &mut Piece, desk: &mut D) -> Result<(), Failed>
-    ensures { Says D.files D.said D.faults desk.old desk.new result (pending piece.old) (pending piece.new) (refusal_text (read_fault_text fault)) }
+    requires { CanPut (target_of piece.old) (D.state desk.old) }
+    ensures { PutsOut (D.state desk.old) (D.state desk.new) result piece.old piece.new (refusal_text (read_fault_text fault)) }
 {
     match fault {
         ReadFault::Syntax(place) => put_refusal(b"syntax", &[Word::Number(place)], piece, desk),
@@ -124,7 +130,8 @@ fn construct_word(construct: Construct) -> &'static [u8]
 
 // Puts out the line of the refusal of a module that has no net.
 fn put_net_fault<D: Desk>(fault: &NetFault, piece: &mut Piece, desk: &mut D) -> Result<(), Failed>
-    ensures { Says D.files D.said D.faults desk.old desk.new result (pending piece.old) (pending piece.new) (refusal_text (net_fault_text fault.now)) }
+    requires { CanPut (target_of piece.old) (D.state desk.old) }
+    ensures { PutsOut (D.state desk.old) (D.state desk.new) result piece.old piece.new (refusal_text (net_fault_text fault.now)) }
 {
     match fault {
         NetFault::BadPort(name) => put_named(b"port", name, piece, desk),
@@ -143,7 +150,8 @@ fn put_named<D: Desk>(
     piece: &mut Piece,
     desk: &mut D,
 ) -> Result<(), Failed>
-    ensures { Says D.files D.said D.faults desk.old desk.new result (pending piece.old) (pending piece.new) (refusal_text (spaced fault.now (name.now ∷ []))) }
+    requires { CanPut (target_of piece.old) (D.state desk.old) }
+    ensures { PutsOut (D.state desk.old) (D.state desk.new) result piece.old piece.new (refusal_text (spaced fault.now (name.now ∷ []))) }
 {
     put_refusal(fault, &[Word::Text(name.as_slice())], piece, desk)
 }
@@ -151,7 +159,8 @@ fn put_named<D: Desk>(
 // Puts out a line for want of memory. It never comes: want of memory is kept apart from the faults of an
 // input, and says nothing. There is a text only since the readers below name it among their faults.
 fn put_memory<D: Desk>(piece: &mut Piece, desk: &mut D) -> Result<(), Failed>
-    ensures { Says D.files D.said D.faults desk.old desk.new result (pending piece.old) (pending piece.new) (refusal_text memory_text) }
+    requires { CanPut (target_of piece.old) (D.state desk.old) }
+    ensures { PutsOut (D.state desk.old) (D.state desk.new) result piece.old piece.new (refusal_text memory_text) }
 {
     put_refusal(b"memory", &[], piece, desk)
 }

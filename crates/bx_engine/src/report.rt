@@ -2,9 +2,10 @@
 //! the form on each tile, row by row. It prints what it is given; that the layout is sound and computes
 //! the module is for others to prove.
 ghost use Rattle.std.specs.Prelude.{◌≡◌, ◌++◌, ◌≤◌, [], ◌∷◌, flat_map, codes, decimal, map};
-ghost use Rattle.bx_desk.specs.Pieces.{pending};
+ghost use Rattle.bx_desk.specs.Desk.{CanPut};
+ghost use Rattle.bx_desk.specs.Pieces.{target_of};
 ghost use Rattle.bx_engine.specs.Chains.{IsChain};
-ghost use Rattle.bx_engine.specs.Says.{Says};
+ghost use Rattle.bx_engine.specs.Says.{PutsOut};
 ghost use Rattle.bx_engine.specs.Grids.{FormGrid as Grid};
 ghost use Rattle.bx_engine.specs.Columns.{column};
 ghost use Rattle.bx_engine.specs.Texts.{spaced, tile_name};
@@ -24,9 +25,10 @@ pub(crate) fn put_report<D: Desk>(
     piece: &mut Piece,
     desk: &mut D,
 ) -> Result<(), Failed>
+    requires can { CanPut (target_of piece.old) (D.state desk.old) }
     requires chain { IsChain net.now inversions }
     requires laid_out { grid.now ≡ column inversions }
-    ensures { Says D.files D.said D.faults desk.old desk.new result (pending piece.old) (pending piece.new) (report_of net.now inversions) }
+    ensures { PutsOut (D.state desk.old) (D.state desk.new) result piece.old piece.new (report_of net.now inversions) }
 {
     put_head(net, inversions, piece, desk)?;
     put_ports(net, inversions, piece, desk)?;
@@ -40,7 +42,8 @@ fn put_head<D: Desk>(
     piece: &mut Piece,
     desk: &mut D,
 ) -> Result<(), Failed>
-    ensures { Says D.files D.said D.faults desk.old desk.new result (pending piece.old) (pending piece.new) (head_text net.now inversions) }
+    requires { CanPut (target_of piece.old) (D.state desk.old) }
+    ensures { PutsOut (D.state desk.old) (D.state desk.new) result piece.old piece.new (head_text net.now inversions) }
 {
     let nodes = Word::Number(inversions as u64 + 2);
     let edges = Word::Number(inversions as u64 + 1);
@@ -57,8 +60,9 @@ fn put_ports<D: Desk>(
     piece: &mut Piece,
     desk: &mut D,
 ) -> Result<(), Failed>
-    requires { IsChain net.now inversions }
-    ensures { Says D.files D.said D.faults desk.old desk.new result (pending piece.old) (pending piece.new) (ports_text net.now inversions) }
+    requires can { CanPut (target_of piece.old) (D.state desk.old) }
+    requires chain { IsChain net.now inversions }
+    ensures { PutsOut (D.state desk.old) (D.state desk.new) result piece.old piece.new (ports_text net.now inversions) }
 {
     let first = Word::Number(0);
     let last = Word::Number(inversions as u64 + 1);
@@ -70,7 +74,8 @@ fn put_ports<D: Desk>(
 
 // Puts out the rows of a grid.
 fn put_rows<D: Desk>(grid: &FormGrid, piece: &mut Piece, desk: &mut D) -> Result<(), Failed>
-    ensures { Says D.files D.said D.faults desk.old desk.new result (pending piece.old) (pending piece.new) (rows_text grid.now) }
+    requires { CanPut (target_of piece.old) (D.state desk.old) }
+    ensures { PutsOut (D.state desk.old) (D.state desk.new) result piece.old piece.new (rows_text grid.now) }
 {
     for y in 0..grid.ratio().h {
         put_row(grid.row(y), y, piece, desk)?;
@@ -85,7 +90,8 @@ fn put_row<D: Desk>(
     piece: &mut Piece,
     desk: &mut D,
 ) -> Result<(), Failed>
-    ensures { Says D.files D.said D.faults desk.old desk.new result (pending piece.old) (pending piece.new)
+    requires { CanPut (target_of piece.old) (D.state desk.old) }
+    ensures { PutsOut (D.state desk.old) (D.state desk.new) result piece.old piece.new
         (spaced (codes "row") (decimal y ∷ map tile_name tiles.now) ++ 10 ∷ []) }
 {
     put_word(Word::Text(b"row"), piece, desk)?;
@@ -96,7 +102,8 @@ fn put_row<D: Desk>(
 
 // Puts out the names of the forms on tiles, each behind a space.
 fn put_tiles<D: Desk>(tiles: &[Option<Form>], piece: &mut Piece, desk: &mut D) -> Result<(), Failed>
-    ensures { Says D.files D.said D.faults desk.old desk.new result (pending piece.old) (pending piece.new) (flat_map (λ tile. 32 ∷ tile_name tile) tiles.now) }
+    requires { CanPut (target_of piece.old) (D.state desk.old) }
+    ensures { PutsOut (D.state desk.old) (D.state desk.new) result piece.old piece.new (flat_map (λ tile. 32 ∷ tile_name tile) tiles.now) }
 {
     for tile in tiles {
         put_spaced(Word::Text(name_of(*tile)), piece, desk)?;

@@ -1,8 +1,9 @@
 //! Saying words and lines through a piece. Each call puts out exactly its text, or after a failure of
 //! the desk a front of it; which lines there are is left to the report and to `run`.
 ghost use Rattle.std.specs.Prelude.{◌++◌, [], ◌∷◌, map};
-ghost use Rattle.bx_desk.specs.Pieces.{pending};
-ghost use Rattle.bx_engine.specs.Says.{Says};
+ghost use Rattle.bx_desk.specs.Desk.{CanPut};
+ghost use Rattle.bx_desk.specs.Pieces.{target_of};
+ghost use Rattle.bx_engine.specs.Says.{PutsOut};
 ghost use Rattle.bx_engine.specs.Texts.{spaced};
 ghost use Rattle.bx_engine.specs.Words.{word_text, further_text};
 
@@ -21,7 +22,8 @@ pub enum Word<'a> {
 ///
 /// `Failed` if the desk fails to say it.
 pub fn put_word<D: Desk>(word: Word, piece: &mut Piece, desk: &mut D) -> Result<(), Failed>
-    ensures { Says D.files D.said D.faults desk.old desk.new result (pending piece.old) (pending piece.new) (word_text word.entry) }
+    requires { CanPut (target_of piece.old) (D.state desk.old) }
+    ensures { PutsOut (D.state desk.old) (D.state desk.new) result piece.old piece.new (word_text word.entry) }
 {
     match word {
         Word::Text(bytes) => piece.put(bytes, desk),
@@ -35,7 +37,8 @@ pub fn put_word<D: Desk>(word: Word, piece: &mut Piece, desk: &mut D) -> Result<
 ///
 /// `Failed` if the desk fails to say it.
 pub fn put_spaced<D: Desk>(word: Word, piece: &mut Piece, desk: &mut D) -> Result<(), Failed>
-    ensures { Says D.files D.said D.faults desk.old desk.new result (pending piece.old) (pending piece.new) (32 ∷ word_text word.entry) }
+    requires { CanPut (target_of piece.old) (D.state desk.old) }
+    ensures { PutsOut (D.state desk.old) (D.state desk.new) result piece.old piece.new (32 ∷ word_text word.entry) }
 {
     put_word(Word::Text(b" "), piece, desk)?;
     put_word(word, piece, desk)
@@ -47,7 +50,8 @@ pub fn put_spaced<D: Desk>(word: Word, piece: &mut Piece, desk: &mut D) -> Resul
 ///
 /// `Failed` if the desk fails to say it.
 pub fn put_words<D: Desk>(words: &[Word], piece: &mut Piece, desk: &mut D) -> Result<(), Failed>
-    ensures { Says D.files D.said D.faults desk.old desk.new result (pending piece.old) (pending piece.new) (further_text words.now) }
+    requires { CanPut (target_of piece.old) (D.state desk.old) }
+    ensures { PutsOut (D.state desk.old) (D.state desk.new) result piece.old piece.new (further_text words.now) }
 {
     for word in words {
         put_spaced(*word, piece, desk)?;
@@ -66,7 +70,8 @@ pub fn put_line<D: Desk>(
     piece: &mut Piece,
     desk: &mut D,
 ) -> Result<(), Failed>
-    ensures { Says D.files D.said D.faults desk.old desk.new result (pending piece.old) (pending piece.new)
+    requires { CanPut (target_of piece.old) (D.state desk.old) }
+    ensures { PutsOut (D.state desk.old) (D.state desk.new) result piece.old piece.new
         (spaced first.now (map word_text further.now) ++ 10 ∷ []) }
 {
     put_word(Word::Text(first), piece, desk)?;

@@ -1,7 +1,8 @@
 use super::*;
-use bx_desk::{MemDesk, OpenGate};
+use bx_desk::{Gate, MemDesk, OpenGate};
 use bx_logic::NoMemory;
 use std::alloc::Global;
+use std::sync::atomic::{AtomicU64, Ordering};
 use std::test::Fail;
 
 // Words as the program hands them on.
@@ -237,5 +238,43 @@ fn more_than_94_not_are_not_built(rt: HostRuntime) -> Result<(), Fail> {
         run(&rt, alloc, design.as_slice(), &mut desk, &OpenGate);
         assert!(rt; desk.said().starts_with(said.as_bytes()), "{count}");
     }
+    Ok(())
+}
+
+// A gate that counts how often it is entered and left.
+struct Counter {
+    entered: AtomicU64,
+    left: AtomicU64,
+}
+
+impl Gate for Counter {
+    fn enter(&self, _index: u64) {
+        self.entered.fetch_add(1, Ordering::SeqCst);
+    }
+
+    fn leave(&self, _index: u64) {
+        self.left.fetch_add(1, Ordering::SeqCst);
+    }
+}
+
+#[test]
+fn the_gate_is_not_entered_yet(rt: HostRuntime) -> Result<(), Fail> {
+    let alloc = rt.alloc();
+    let design = words(alloc, "design net.v")?;
+    let gate = Counter {
+        entered: AtomicU64::new(0),
+        left: AtomicU64::new(0),
+    };
+    for (text, code, _) in ROWS {
+        let mut desk = desk_with(alloc, text.as_bytes())?;
+        let status = run(&rt, alloc, design.as_slice(), &mut desk, &gate);
+        assert_eq!(rt; status.code(), code, "{text}");
+        assert_eq!(rt; gate.entered.load(Ordering::SeqCst), 0, "{text}");
+        assert_eq!(rt; gate.left.load(Ordering::SeqCst), 0, "{text}");
+    }
+    gate.enter(3);
+    gate.leave(3);
+    assert_eq!(rt; gate.entered.load(Ordering::SeqCst), 1);
+    assert_eq!(rt; gate.left.load(Ordering::SeqCst), 1);
     Ok(())
 }

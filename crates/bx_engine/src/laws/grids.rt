@@ -119,6 +119,12 @@ pub fn an_averted_output_is_not_sound()
     ensures conjunction { IsSound (conjoined_with output_l) → ⊥ }
 {}
 
+/// A grid of no tiles is no form grid, and isn't sound.
+pub fn a_grid_of_no_tiles_is_not_sound()
+    ensures whole { (g : FormGrid) → tile_count g.ratio ≡ 0 → IsFormGrid g → ⊥ }
+    ensures sound { (g : FormGrid) → tile_count g.ratio ≡ 0 → IsSound g → ⊥ }
+{}
+
 /// A column that lacks its last row isn't sound.
 pub fn a_column_cut_short_is_not_sound()
     ensures { (k : ℕ) → IsSound (cut_short k) → ⊥ }

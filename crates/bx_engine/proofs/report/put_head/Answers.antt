@@ -4,10 +4,10 @@ use Rattle.bx_engine.proofs.Lines.{head_is}
 use Rattle.bx_engine.proofs.report.put_head.Goals as goal
 
 pub returns-in_err-put_line : goal.returns-in_err-put_line
-returns-in_err-put_line g c = says_as _ _ _ _ _ _ _ _ _ _ (head_is c.args.net.now c.args.inversions c.as_slice.result.now (c.as_slice.ensures ∙ c.name.ensures)) (says_failed _ _ _ _ _ _ _ _ _ _ _ _ _ c.in_err-put_line.was c.from_residual.ensures.0 c.put_line.ensures)
+returns-in_err-put_line g c = says_as _ _ _ _ _ _ _ (head_is c.args.net.now c.args.inversions c.as_slice.result.now (c.as_slice.ensures ∙ c.name.ensures)) (says_failed _ _ _ _ _ _ _ _ _ c.in_err-put_line.was c.from_residual.ensures.0 c.put_line.ensures)
 
 pub returns-in_err-put_line-2 : goal.returns-in_err-put_line-2
-returns-in_err-put_line-2 g c = says_as _ _ _ _ _ _ _ _ _ _ (head_is c.args.net.now c.args.inversions c.as_slice.result.now (c.as_slice.ensures ∙ c.name.ensures)) (says_then _ _ _ _ _ _ _ _ _ _ _ _ _ _ c.in_ok-put_line.was c.put_line.ensures (says_failed _ _ _ _ _ _ _ _ _ _ _ _ _ c.in_err-put_line-2.was c.from_residual-in_err-put_line-2.ensures.0 c.put_line-2.ensures))
+returns-in_err-put_line-2 g c = says_as _ _ _ _ _ _ _ (head_is c.args.net.now c.args.inversions c.as_slice.result.now (c.as_slice.ensures ∙ c.name.ensures)) (says_then _ _ _ _ _ _ _ _ _ _ _ c.in_ok-put_line.was c.put_line.ensures (says_failed _ _ _ _ _ _ _ _ _ c.in_err-put_line-2.was c.from_residual-in_err-put_line-2.ensures.0 c.put_line-2.ensures))
 
 pub returns : goal.returns
-returns g c = says_as _ _ _ _ _ _ _ _ _ _ (head_is c.args.net.now c.args.inversions c.as_slice.result.now (c.as_slice.ensures ∙ c.name.ensures)) (says_then _ _ _ _ _ _ _ _ _ _ _ _ _ _ c.in_ok-put_line.was c.put_line.ensures (says_then _ _ _ _ _ _ _ _ _ _ _ _ _ _ c.in_ok-put_line-2.was c.put_line-2.ensures c.put_line-3.ensures))
+returns g c = says_as _ _ _ _ _ _ _ (head_is c.args.net.now c.args.inversions c.as_slice.result.now (c.as_slice.ensures ∙ c.name.ensures)) (says_then _ _ _ _ _ _ _ _ _ _ _ c.in_ok-put_line.was c.put_line.ensures (says_then _ _ _ _ _ _ _ _ _ _ _ c.in_ok-put_line-2.was c.put_line-2.ensures c.put_line-3.ensures))

@@ -24,19 +24,19 @@ pub returns-in_err-put_row : goal.returns-in_err-put_row
 returns-in_err-put_row g c =
     let grid : FormGrid = c.args.grid.now in
     let h : c.loop-y.y < grid.ratio.h = omega (arith, ap (λ (r : Ratio). r.h) c.ratio-y-end.ensures) in
-    says_turn_failed _ _ _ _ _ _ _ _ _ _ _ _ (λ y. row_line grid y ++ 10 ∷ []) (range_with_len 0 grid.ratio.h) c.loop-y.y 0 (within grid c.loop-y.y h) c.in_err-put_row.was c.from_residual.ensures.0 c.loop-y.invariant
-    (says_as _ _ _ _ _ _ _ _ _ _ (line_at grid c.loop-y.y c.row.result.now h c.row.ensures) c.put_row.ensures)
+    says_turn_failed _ _ _ _ _ _ _ _ _ (λ y. row_line grid y ++ 10 ∷ []) (range_with_len 0 grid.ratio.h) c.loop-y.y 0 (within grid c.loop-y.y h) c.in_err-put_row.was c.from_residual.ensures.0 c.loop-y.invariant
+    (says_as _ _ _ _ _ _ _ (line_at grid c.loop-y.y c.row.result.now h c.row.ensures) c.put_row.ensures)
 
 pub loop-y-preserved : goal.loop-y-preserved
 loop-y-preserved g c =
     let grid : FormGrid = c.args.grid.now in
     let h : c.loop-y.y < grid.ratio.h = omega (arith, ap (λ (r : Ratio). r.h) c.ratio-y-end.ensures) in
-    says_turn _ _ _ _ _ _ _ _ _ _ (λ y. row_line grid y ++ 10 ∷ []) (range_with_len 0 grid.ratio.h) c.loop-y.y 0 (within grid c.loop-y.y h) c.in_ok-put_row.was c.loop-y.invariant
-    (says_as _ _ _ _ _ _ _ _ _ _ (line_at grid c.loop-y.y c.row.result.now h c.row.ensures) c.put_row.ensures)
+    says_turn _ _ _ _ _ _ _ (λ y. row_line grid y ++ 10 ∷ []) (range_with_len 0 grid.ratio.h) c.loop-y.y 0 (within grid c.loop-y.y h) c.in_ok-put_row.was c.loop-y.invariant
+    (says_as _ _ _ _ _ _ _ (line_at grid c.loop-y.y c.row.result.now h c.row.ensures) c.put_row.ensures)
 
 pub returns : goal.returns
 returns g c =
     let grid : FormGrid = c.args.grid.now in
     let all : List ℕ = range_with_len 0 grid.ratio.h in
     let end : length all ≤ c.loop-y.y = omega (arith, length-range_with_len 0 grid.ratio.h, ap (λ (r : Ratio). r.h) c.ratio-y-end.ensures) in
-    says_as _ _ _ _ _ _ _ _ _ _ (ap (flat_map (λ y. row_line grid y ++ 10 ∷ [])) (take_all c.loop-y.y all end)) c.loop-y.invariant
+    says_as _ _ _ _ _ _ _ (ap (flat_map (λ y. row_line grid y ++ 10 ∷ [])) (take_all c.loop-y.y all end)) c.loop-y.invariant

@@ -1,0 +1,6 @@
+use Rattle.std.proofs.Common.{◌+◌, ◌*◌, arith}
+use Rattle.bx_network.proofs.Placed.{in-read}
+use Rattle.bx_network.proofs.mapped.MappedNet.edge_in.Goals as goal
+
+pub returns : goal.returns
+returns c = in-read _ _ _ _ _ _ c.self.view_is c.self.invariant c.args.v c.args.operand c.requires (2 * c.args.v + c.from.result) c.index.result.now (omega arith) c.index.ensures

@@ -1,0 +1,15 @@
+pub mod Balances
+pub mod Carried
+pub mod Computing
+pub mod Edges
+pub mod Flow
+pub mod OnTiles
+pub mod Permitted
+pub mod PinLists
+pub mod Sending
+pub mod Soundness
+pub mod Spread
+pub mod Valuations
+pub mod Verdicts
+pub mod Walks
+pub mod Wires

@@ -1,0 +1,174 @@
+-- What stays of a net in cells is one in which each cell is read.
+use Rattle.std.proofs.Common.{◌≡◌, ℕ, zero, suc, ◌+◌, ◌<◌, ◌==◌, List, [], ◌∷◌, ◌++◌, length, map, get_or, refl, sym, ◌∙◌, ap, subst, arith, inl, inr}
+use Rattle.std.specs.List.{AllByRecursion, filter}
+use Rattle.std.proofs.lemmas.Bool.{or_cases}
+use Rattle.std.proofs.lemmas.List.{length-map}
+use Rattle.bx_forms.specs.Kinds.{slots, operands}
+use Rattle.bx_map.specs.declared.cell.Cell.{Cell}
+use Rattle.bx_map.specs.declared.cell.Cell.TheVariants.{Input, Not, Gate}
+use Rattle.bx_map.specs.FanOuts.{IsCellNet}
+use Rattle.bx_map.specs.Cells.{CellNet, cell_at, kind_of, operands_of, renumbered, AreCells}
+use Rattle.bx_map.specs.Walks.{has}
+use Rattle.bx_map.specs.Drops.{staying, rank, stay_of, dropped}
+use Rattle.bx_map.specs.FanOuts.{Use, operand_uses, cell_uses, output_uses, uses, consumers}
+use Rattle.bx_map.proofs.Tallies.{one_if, tally, tally-append, length-filter}
+use Rattle.bx_map.proofs.Networked.{HasPortsApart}
+use Rattle.bx_map.proofs.Keeping.{Has, has-itself, all-has, has-map, has-get_or, staying-within, staying-rises, wanted-stay, read-stay, stay-read, at-rank, rank-at, rank-less, rank-within}
+
+map-at : (f : ℕ → Cell) (xs : List ℕ) (k : ℕ) → k < length xs → cell_at (map f xs) k ≡ f (get_or xs k 0)
+map-at f [] k l = absurd (omega arith)
+map-at f (x ∷ xs) zero l = refl
+map-at f (x ∷ xs) (suc k) l = map-at f xs k (omega arith)
+
+pub operands-renumbered : (f : ℕ → ℕ) (c : Cell) → operands_of (renumbered f c) ≡ map f (operands_of c)
+operands-renumbered f (Input p) = refl
+operands-renumbered f (Not a) = refl
+operands-renumbered f (Gate k a b) = refl
+
+pub kind-renumbered : (f : ℕ → ℕ) (c : Cell) → kind_of (renumbered f c) ≡ kind_of c
+kind-renumbered f (Input p) = refl
+kind-renumbered f (Not a) = refl
+kind-renumbered f (Gate k a b) = refl
+
+input-renumbered : (f : ℕ → ℕ) (c : Cell) (port : ℕ) → renumbered f c ≡ Input port → c ≡ Input port
+input-renumbered f (Input p) port e = e
+input-renumbered f (Not a) port e = absurd (cc)
+input-renumbered f (Gate k a b) port e = absurd (cc)
+
+all-map : (P : ℕ → Type 0) (f : ℕ → ℕ) (xs : List ℕ) → AllByRecursion (λ a. P (f a)) xs → AllByRecursion P (map f xs)
+all-map P f [] a = tt
+all-map P f (x ∷ xs) a = (a.0, all-map P f xs a.1)
+
+-- what is read has a use
+
+read-used : (k c q : ℕ) (is : List ℕ) → Has is k → 0 < tally (λ (u : Use). u.cell == k) (operand_uses c q is)
+read-used k c q [] h = absurd (cc)
+read-used k c q (i ∷ is) h =
+    elim (or_cases (i == k) (has is k) h) [
+      | inl e ↦ let one = ap one_if e in omega (arith, one)
+      | inr m ↦ let rest = read-used k c (suc q) is m in omega (arith, rest)
+    ]
+
+output-used : (k j : ℕ) (is : List ℕ) → Has is k → 0 < tally (λ (u : Use). u.cell == k) (output_uses j is)
+output-used k j [] h = absurd (cc)
+output-used k j (i ∷ is) h =
+    elim (or_cases (i == k) (has is k) h) [
+      | inl e ↦ let one = ap one_if e in omega (arith, one)
+      | inr m ↦ let rest = output-used k (suc j) is m in omega (arith, rest)
+    ]
+
+cell-used : (k j : ℕ) (cs : List Cell) (q : ℕ) → q < length cs → Has (operands_of (cell_at cs q)) k → 0 < tally (λ (u : Use). u.cell == k) (cell_uses j cs)
+cell-used k j [] q l h = absurd (omega arith)
+cell-used k j (c ∷ cs) zero l h =
+    let a = tally-append (λ (u : Use). u.cell == k) (operand_uses j 0 (operands_of c)) (cell_uses (suc j) cs) in
+    let b = read-used k j 0 (operands_of c) h in
+    omega (arith, a, b)
+cell-used k j (c ∷ cs) (suc q) l h =
+    let a = tally-append (λ (u : Use). u.cell == k) (operand_uses j 0 (operands_of c)) (cell_uses (suc j) cs) in
+    let b = cell-used k (suc j) cs q (omega arith) h in
+    omega (arith, a, b)
+
+consumers-count : (net : CellNet) (k : ℕ) → length (consumers net k) ≡ tally (λ (u : Use). u.cell == k) (cell_uses 0 net.cells) + tally (λ (u : Use). u.cell == k) (output_uses 0 net.outputs)
+unfolding consumers uses
+consumers-count net k =
+    length-map (filter (λ (u : Use). u.cell == k) (cell_uses 0 net.cells ++ output_uses 0 net.outputs)) (λ (u : Use). u.consumer)
+    ∙ (length-filter (λ (u : Use). u.cell == k) (cell_uses 0 net.cells ++ output_uses 0 net.outputs)
+    ∙ tally-append (λ (u : Use). u.cell == k) (cell_uses 0 net.cells) (output_uses 0 net.outputs))
+
+module _ (net : CellNet) (h : AreCells net) where
+  pub dropped-count : length (dropped net).cells ≡ length (stay_of net)
+  unfolding dropped
+  dropped-count = length-map (staying net.cells (length net.cells) net.outputs) (λ i. renumbered (rank (staying net.cells (length net.cells) net.outputs)) (cell_at net.cells i))
+
+  stay-within : (i : ℕ) → Has (stay_of net) i → i < length net.cells
+  stay-within i s = all-has (λ j. j < length net.cells) (staying net.cells (length net.cells) net.outputs) i (staying-within net.cells (length net.cells) net.outputs) s
+
+  pub cell-is : (k : ℕ) → k < length (dropped net).cells → cell_at (dropped net).cells k ≡ renumbered (rank (stay_of net)) (cell_at net.cells (get_or (stay_of net) k 0))
+  unfolding dropped
+  cell-is k l =
+      map-at (λ i. renumbered (rank (staying net.cells (length net.cells) net.outputs)) (cell_at net.cells i)) (staying net.cells (length net.cells) net.outputs) k (omega (arith, dropped-count))
+
+  pub has-at : (k : ℕ) → k < length (dropped net).cells → Has (stay_of net) (get_or (stay_of net) k 0)
+  has-at k l = has-get_or (stay_of net) k (omega (arith, dropped-count))
+
+  rank-of : (k : ℕ) → k < length (dropped net).cells → rank (stay_of net) (get_or (stay_of net) k 0) ≡ k
+  rank-of k l = rank-at (staying net.cells (length net.cells) net.outputs) (staying-rises net.cells (length net.cells) net.outputs) k (omega (arith, dropped-count))
+
+  operands-are : (k : ℕ) → k < length (dropped net).cells → operands_of (cell_at (dropped net).cells k) ≡ map (rank (stay_of net)) (operands_of (cell_at net.cells (get_or (stay_of net) k 0)))
+  operands-are k l = ap operands_of (cell-is k l) ∙ operands-renumbered (rank (stay_of net)) (cell_at net.cells (get_or (stay_of net) k 0))
+
+  kind-is : (k : ℕ) → k < length (dropped net).cells → kind_of (cell_at (dropped net).cells k) ≡ kind_of (cell_at net.cells (get_or (stay_of net) k 0))
+  kind-is k l = ap kind_of (cell-is k l) ∙ kind-renumbered (rank (stay_of net)) (cell_at net.cells (get_or (stay_of net) k 0))
+
+  pub reads-stay : (i : ℕ) → Has (stay_of net) i → (a : ℕ) → Has (operands_of (cell_at net.cells i)) a → Has (stay_of net) a
+  reads-stay i s a r = read-stay net.cells h.reads (length net.cells) net.outputs i a s r
+
+  pub outputs-stay : (o : ℕ) → Has net.outputs o → Has (stay_of net) o
+  outputs-stay o s = wanted-stay net.cells (length net.cells) net.outputs o (all-has (λ a. a < length net.cells) net.outputs o h.outputs s) s
+
+  reads-earlier : (k : ℕ) → k < length (dropped net).cells → AllByRecursion (λ a. a < k) (operands_of (cell_at (dropped net).cells k))
+  reads-earlier k l =
+      let i : ℕ = get_or (stay_of net) k 0 in
+      let at = rank-of k l in
+      subst (AllByRecursion (λ a. a < k)) (sym (operands-are k l))
+      (all-map (λ a. a < k) (rank (stay_of net)) (operands_of (cell_at net.cells i))
+      (has-itself (λ a. rank (stay_of net) a < k) (operands_of (cell_at net.cells i))
+      (λ a r. let less = rank-less (stay_of net) a i (reads-stay i (has-at k l) a r) (all-has (λ b. b < i) (operands_of (cell_at net.cells i)) a (h.reads i) r) in omega (arith, less, at))))
+
+  outputs-within : AllByRecursion (λ a. a < length (dropped net).cells) (dropped net).outputs
+  unfolding dropped
+  outputs-within =
+      all-map (λ a. a < length (dropped net).cells) (rank (staying net.cells (length net.cells) net.outputs)) net.outputs
+      (has-itself (λ a. rank (staying net.cells (length net.cells) net.outputs) a < length (dropped net).cells) net.outputs
+      (λ o s. let w = rank-within (staying net.cells (length net.cells) net.outputs) o (outputs-stay o s) in omega (arith, w, dropped-count)))
+
+  output-kept : (i : ℕ) → Has net.outputs i → Has (dropped net).outputs (rank (stay_of net) i)
+  unfolding dropped
+  output-kept i s = has-map (rank (stay_of net)) net.outputs i s
+
+  operand-kept : (j : ℕ) → Has (stay_of net) j → (i : ℕ) → Has (operands_of (cell_at net.cells j)) i → rank (stay_of net) j < length (dropped net).cells →
+      Has (operands_of (cell_at (dropped net).cells (rank (stay_of net) j))) (rank (stay_of net) i)
+  operand-kept j s i r w =
+      let at = at-rank (stay_of net) (staying-rises net.cells (length net.cells) net.outputs) j s in
+      subst (λ (ops : List ℕ). Has ops (rank (stay_of net) i))
+      (sym (operands-are (rank (stay_of net) j) w ∙ ap (λ (m : ℕ). map (rank (stay_of net)) (operands_of (cell_at net.cells m))) at))
+      (has-map (rank (stay_of net)) (operands_of (cell_at net.cells j)) i r)
+
+  each-read : (k : ℕ) → k < length (dropped net).cells → 0 < length (consumers (dropped net) k)
+  each-read k l =
+      let i : ℕ = get_or (stay_of net) k 0 in
+      let at = rank-of k l in
+      let count = consumers-count (dropped net) k in
+      elim (stay-read net.cells (length net.cells) net.outputs i (has-at k l)) [
+        | inl out ↦
+            let r : Has (dropped net).outputs (rank (stay_of net) i) = output-kept i out in
+            let u = output-used k 0 (dropped net).outputs (subst (Has (dropped net).outputs) at r) in
+            omega (arith, count, u)
+        | inr by ↦
+            let (j, s, r) = by in
+            let q : ℕ = rank (stay_of net) j in
+            let w : q < length (dropped net).cells = omega (arith, rank-within (stay_of net) j s, dropped-count) in
+            let u = cell-used k 0 (dropped net).cells q w (subst (Has (operands_of (cell_at (dropped net).cells q))) at (operand-kept j s i r w)) in
+            omega (arith, count, u)
+      ]
+
+  pub dropped-is_cell_net : IsCellNet (dropped net)
+  dropped-is_cell_net = record {
+    reads = reads-earlier;
+    arity = λ k l.
+        let i : ℕ = get_or (stay_of net) k 0 in
+        ap length (operands-are k l) ∙ (length-map (operands_of (cell_at net.cells i)) (rank (stay_of net))
+        ∙ (h.arity i (stay-within i (has-at k l)) ∙ sym (ap operands (kind-is k l))));
+    slot = λ k l. ap slots (kind-is k l) ∙ h.slot (get_or (stay_of net) k 0) (stay-within (get_or (stay_of net) k 0) (has-at k l));
+    outputs = outputs-within;
+    consumed = each-read;
+  }
+
+  pub dropped-ports_apart : HasPortsApart (dropped net)
+  dropped-ports_apart i j port l m e f =
+      let s : ℕ = get_or (stay_of net) i 0 in
+      let t : ℕ = get_or (stay_of net) j 0 in
+      let a = input-renumbered (rank (stay_of net)) (cell_at net.cells s) port (sym (cell-is i l) ∙ e) in
+      let b = input-renumbered (rank (stay_of net)) (cell_at net.cells t) port (sym (cell-is j m) ∙ f) in
+      let same = h.apart s t port (stay-within s (has-at i l)) (stay-within t (has-at j m)) a b in
+      sym (rank-of i l) ∙ (ap (rank (stay_of net)) same ∙ rank-of j m)

@@ -1,0 +1,15 @@
+pub mod Tallies
+pub mod Spots
+pub mod Numbering
+pub mod Networked
+pub mod Keeping
+pub mod Dropping
+pub mod Folding
+pub mod Mapping
+pub mod Truths
+pub mod Walking
+pub mod Meanings
+pub mod Flowing
+pub mod Carrying
+pub mod Behaving
+pub mod Reaching

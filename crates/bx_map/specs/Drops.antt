@@ -1,0 +1,52 @@
+-- The drop: only cells from which an output can be reached stay, in their order.
+use Rattle.std.specs.Prelude.{ℕ, zero, suc, ◌≡◌, ◌<◌, nat_lt, ◌+◌, ◌*◌, Bool, true, false, if◌then◌else◌, List, [], ◌∷◌, ◌++◌, length, map, slice_index, slice_index_or, slice_set, Contains}
+use Rattle.std.specs.List.{count_by, sum_by}
+use Rattle.bx_map.specs.declared.cell.Cell.{Cell}
+use Rattle.bx_map.specs.Cells.{CellNet, cell_at, operands_of, renumbered}
+use Rattle.bx_map.specs.Walks.{has}
+
+-- an output has the value of this cell, or a cell reads it from which an output can be reached
+pub data Reaches (net : CellNet) : ℕ → Type 0 where
+  output : (i : ℕ) → Contains net.outputs i → Reaches net i
+  through : (i j : ℕ) → Contains (operands_of (cell_at net.cells j)) i → Reaches net j → Reaches net i
+
+-- the first so many cells that stay, where these are wanted by outputs and by later cells that stay
+unfoldable pub staying : List Cell → ℕ → List ℕ → List ℕ
+staying cells zero wanted = []
+staying cells (suc i) wanted =
+    if has wanted i then (staying cells i (operands_of (cell_at cells i) ++ wanted) ++ i ∷ []) else staying cells i wanted
+
+-- the number of a cell among those that stay: how many before it do
+abbrev pub rank : List ℕ → ℕ → ℕ
+rank stay i = count_by (λ j. nat_lt j i) stay
+
+abbrev pub kept : CellNet → List ℕ → CellNet
+kept net stay = record {
+  cells = map (λ i. renumbered (rank stay) (cell_at net.cells i)) stay;
+  outputs = map (rank stay) net.outputs;
+}
+
+-- the cells that stay, in their order
+abbrev pub stay_of : CellNet → List ℕ
+stay_of net = staying net.cells (length net.cells) net.outputs
+
+unfoldable pub dropped : CellNet → CellNet
+dropped net = kept net (stay_of net)
+
+-- whether each cell stays
+pub record AreMarks (net : CellNet) (marks : List Bool) : Type 0 where
+  pub whole : length marks ≡ length net.cells
+  pub each : (i : ℕ) → i < length net.cells → slice_index_or marks i false ≡ has (stay_of net) i
+
+-- these cells are marked too
+abbrev pub marked : List Bool → List ℕ → List Bool
+marked marks [] = marks
+marked marks (i ∷ is) = marked (slice_set marks i true) is
+
+-- how many values are read by what stays, each output's counted twice: for its node too
+abbrev pub kept_count : CellNet → ℕ
+kept_count net = sum_by (λ i. length (operands_of (cell_at net.cells i))) (stay_of net) + 2 * length net.outputs
+
+-- the rank with this number in a list of them
+abbrev pub ranks_of : List ℕ → ℕ → ℕ
+ranks_of ranks i = slice_index ranks i

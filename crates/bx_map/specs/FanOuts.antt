@@ -1,0 +1,72 @@
+-- Fan-outs: what reads the value of each cell, and the tree of fans that serves it.
+use Rattle.std.specs.Prelude.{◌≡◌, ◌<◌, ℕ, zero, suc, ◌+◌, ◌/◌, ◌==◌, nat_lt, if◌then◌else◌, List, [], ◌∷◌, ◌++◌, length, map, filter, take, drop, slice_index_or}
+use Rattle.bx_map.specs.declared.cell.Cell.{Cell}
+use Rattle.std.specs.List.{AllByRecursion}
+use Rattle.bx_forms.specs.Kinds.{slots, operands}
+use Rattle.bx_map.specs.Cells.{CellNet, cell_at, kind_of, operands_of}
+
+-- what reads a value: an operand of a cell, both by their numbers, or an output by its port
+pub data Consumer : Type 0 where
+  operand : ℕ → ℕ → Consumer
+  output : ℕ → Consumer
+
+-- the value of this cell is read by this consumer
+pub record Use : Type 0 where
+  pub cell : ℕ
+  pub consumer : Consumer
+
+abbrev pub use_of : ℕ → Consumer → Use
+use_of i consumer = record { cell = i; consumer = consumer }
+
+-- the uses by the operands of a cell, from one operand on
+abbrev pub operand_uses : ℕ → ℕ → List ℕ → List Use
+operand_uses cell k [] = []
+operand_uses cell k (i ∷ is) = use_of i (operand cell k) ∷ operand_uses cell (suc k) is
+
+-- the uses by cells, from one cell on: operand 0 before operand 1
+abbrev pub cell_uses : ℕ → List Cell → List Use
+cell_uses j [] = []
+cell_uses j (c ∷ cs) = operand_uses j 0 (operands_of c) ++ cell_uses (suc j) cs
+
+-- the uses by outputs, from one port on
+abbrev pub output_uses : ℕ → List ℕ → List Use
+output_uses j [] = []
+output_uses j (i ∷ is) = use_of i (output j) ∷ output_uses (suc j) is
+
+-- operands in the order of the cells, and then outputs in port order
+unfoldable pub uses : CellNet → List Use
+uses net = cell_uses 0 net.cells ++ output_uses 0 net.outputs
+
+unfoldable pub consumers : CellNet → ℕ → List Consumer
+consumers net i = map (λ u. u.consumer) (filter (λ u. u.cell == i) (uses net))
+
+-- one consumer, by a direct edge, or a fan with what its two slots serve
+pub data FanOut : Type 0 where
+  direct : Consumer → FanOut
+  fan : FanOut → FanOut → FanOut
+
+-- the first half, which is the larger one
+abbrev pub half : ℕ → ℕ
+half k = (k + 1) / 2
+
+-- what serves these consumers, of which there is at least one: more than one are served by a fan, whose
+-- slot 0 serves the first half and slot 1 the others, each by the same rule. As many halvings as there
+-- are consumers are enough.
+unfoldable pub fan_out : ℕ → List Consumer → FanOut
+fan_out zero cs = direct (slice_index_or cs 0 (output 0))
+fan_out (suc k) cs =
+    if nat_lt 1 (length cs) then fan (fan_out k (take (half (length cs)) cs)) (fan_out k (drop (half (length cs)) cs))
+    else direct (slice_index_or cs 0 (output 0))
+
+unfoldable pub served : CellNet → ℕ → FanOut
+served net i = fan_out (length (consumers net i)) (consumers net i)
+
+-- a net in cells of which each is read
+pub record IsCellNet (net : CellNet) : Type 0 where
+  -- a cell reads earlier ones, as many as its kind has operands, and gives one value
+  pub reads : (j : ℕ) → j < length net.cells → AllByRecursion (λ a. a < j) (operands_of (cell_at net.cells j))
+  pub arity : (j : ℕ) → j < length net.cells → length (operands_of (cell_at net.cells j)) ≡ operands (kind_of (cell_at net.cells j))
+  pub slot : (j : ℕ) → j < length net.cells → slots (kind_of (cell_at net.cells j)) ≡ 1
+  pub outputs : AllByRecursion (λ a. a < length net.cells) net.outputs
+  -- each cell is read
+  pub consumed : (i : ℕ) → i < length net.cells → 0 < length (consumers net i)

@@ -1,13 +1,12 @@
 -- How many literals of a clause aren't false, one literal after the other.
-use Rattle.std.proofs.Common.{◌≡◌, ℕ, zero, suc, ◌+◌, ◌<◌, ◌≤◌, List, [], ◌∷◌, length, get_or, take, Option, Some, None, refl, sym, ◌∙◌, ap, subst, inl, inr, arith}
+use Rattle.std.proofs.Common.{◌≡◌, ℕ, zero, suc, ◌+◌, ◌<◌, ◌≤◌, List, [], ◌∷◌, length, get_or, take, Some, refl, sym, ◌∙◌, ap, subst, inl, inr, arith}
 use Rattle.std.proofs.lemmas.List.{take_all}
 use Rattle.std.proofs.lemmas.List.Elements.{All-more}
 use Rattle.std.proofs.lemmas.Bool.{cases_eq}
 use Rattle.std.proofs.lemmas.Option.{slice_get_within, get_or_from_slice_get, slice_get_read}
-use Rattle.std.specs.Prelude.{◌⊎◌, ◌≢◌, slice_get, All}
+use Rattle.std.specs.Prelude.{◌≢◌, slice_get, All}
 use Rattle.bx_cnf.specs.Literals.{Literal}
 use Rattle.bx_cnf.specs.Assignments.{IsFalse, IsClauseFalse, LeavesOne}
-use Rattle.bx_check.specs.Left.{IsLeft}
 
 pub get_take : {X : Type 0} (xs : List X) (i k : ℕ) → k < i → slice_get (take i xs) k ≡ slice_get xs k
 get_take xs zero k lt = absurd (omega arith)

@@ -1,4 +1,4 @@
-use Rattle.std.proofs.Common.{◌≡◌, ◌+◌, ◌-◌, ◌<◌, ◌≤◌, ◌++◌, ◌∷◌, [], length, get_or, drop, ap, subst, arith}
+use Rattle.std.proofs.Common.{◌<◌, ◌≤◌, length, ap, arith}
 use Rattle.bx_check.specs.Accepted.{with_steps}
 use Rattle.bx_check.specs.Taken.{Taken}
 use Rattle.bx_check.proofs.Lefts.{holds_at}

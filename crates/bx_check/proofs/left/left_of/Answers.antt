@@ -1,4 +1,4 @@
-use Rattle.std.proofs.Common.{◌≡◌, ◌+◌, true, false, take, Some, MatchOption, sym, ◌∙◌, subst, arith}
+use Rattle.std.proofs.Common.{◌≡◌, ◌+◌, true, false, take, MatchOption, sym, ◌∙◌, subst, arith}
 use Rattle.bx_cnf.specs.Assignments.{IsFalse, IsClauseFalse, LeavesOne}
 use Rattle.bx_check.proofs.Lefts.{false_more, one_first, one_more, more_left, false_all}
 use Rattle.bx_check.proofs.Clauses.{some_of, none_of, match_both}

@@ -1,4 +1,4 @@
-use Rattle.std.proofs.Common.{Some, None, refl, arith}
+use Rattle.std.proofs.Common.{Some, refl}
 use Rattle.std.proofs.lemmas.List.Elements.{All-pop}
 use Rattle.std.proofs.Common.{◌<◌, ◌≤◌}
 use Rattle.bx_check.proofs.Values.{left_less}

@@ -1,4 +1,4 @@
-use Rattle.std.proofs.Common.{◌≡◌, ◌-◌, Some, set, refl, sym, ap, subst, arith}
+use Rattle.std.proofs.Common.{refl, ap, subst, arith}
 use Rattle.bx_cnf.specs.Assignments.{IsFalse}
 use Rattle.bx_check.specs.Taken.{Taken}
 use Rattle.bx_check.proofs.Values.{values_taken}

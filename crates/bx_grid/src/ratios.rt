@@ -16,10 +16,10 @@ pub struct Ratios {
 
 impl Model for Ratios {
     ghost use Rattle.std.specs.Prelude.{List};
-    ghost use Rattle.bx_grid.specs.declared.ratio.Ratio.{Ratio as Sides};
+    ghost use Rattle.bx_grid.specs.declared.ratio.Ratio.{Ratio};
     ghost use Rattle.bx_grid.specs.Orders.{AreLimits, order};
 
-    ghost Value = { List Sides };
+    ghost Value = { List Ratio };
 
     ghost view = { λ ratios. order ratios.limits };
 

@@ -1,12 +1,13 @@
 -- The network of five nodes: that it is one, its longest paths, and what it computes.
 use Rattle.std.proofs.Common.{◌≡◌, ℕ, zero, suc, ◌+◌, ◌<◌, ◌≤◌, nat_lt, Bool, true, false, not, ◌&&◌, List, ◌↔◌, length, Some, inl, inr, refl, sym, ap, ap₂, ◌∙◌, subst, arith, le-ltb}
 use Rattle.std.specs.List.{AllByRecursion}
-use Rattle.bx_engine.specs.declared.forms.Kind.{Kind}
-use Rattle.bx_engine.specs.declared.forms.Kind.TheVariants.{Input, Output, Not, Fan, And}
-use Rattle.bx_engine.specs.Networks.{Node, Edge, IsNetwork, IsBefore, IsValuation, HasKind, IsPath, IsDown, IsUp, leaving, entering, slots, operands, one_if}
+use Rattle.bx_forms.specs.declared.kind.Kind.{Kind}
+use Rattle.bx_forms.specs.declared.kind.Kind.TheVariants.{Input, Output, Not, Fan, And}
+use Rattle.bx_forms.specs.Kinds.{operands, slots}
+use Rattle.bx_engine.specs.Networks.{Node, Edge, IsNetwork, IsBefore, IsValuation, HasKind, IsPath, IsDown, IsUp, leaving, entering, one_if}
 use Rattle.bx_engine.specs.BranchingNetworks.{node, edge, branching_network}
 use Rattle.bx_engine.specs.Counts.{Late}
-use Rattle.bx_engine.proofs.Ascending.{Ascends, AllPairs-from_ascends}
+use Rattle.bx_grid.proofs.Ascending.{Ascends, AllPairs-from_ascends}
 use Rattle.bx_engine.proofs.Networks.{path_rises, leaving_past, entering_past}
 
 abbrev nodes : List Node

@@ -1,19 +1,21 @@
 -- Paths, longest paths and counts of edges in the network of a chain.
 use Rattle.std.proofs.Common.{◌≡◌, ℕ, zero, suc, ◌+◌, ◌-◌, ◌*◌, ◌<◌, ◌≤◌, ◌≢◌, ◌↔◌, ◌==◌, ◌&&◌, nat_lt, Bool, true, false, not, min, ◌⊎◌, filter, List, [], ◌∷◌, ◌++◌, map, replicate, length, slice_get, Some, inl, inr, refl, sym, ap, ◌∙◌, subst, arith, eq-eqb, ne_eqb, lit≤, le-ltb}
 use Rattle.std.specs.List.{range_with_len}
-use Rattle.bx_engine.specs.declared.forms.Kind.{Kind}
-use Rattle.bx_engine.specs.declared.forms.Kind.TheVariants.{Input, Output}
-use Rattle.bx_engine.specs.declared.grid.Ratio.{Ratio}
-use Rattle.bx_engine.specs.declared.grid.Limits.{Limits}
+use Rattle.bx_forms.specs.declared.kind.Kind.{Kind}
+use Rattle.bx_forms.specs.declared.kind.Kind.TheVariants.{Input, Output}
+use Rattle.bx_grid.specs.declared.ratio.Ratio.{Ratio}
+use Rattle.bx_grid.specs.declared.ratio.Limits.{Limits}
 use Rattle.bx_engine.specs.declared.grid.TheConstants.{DEFAULT_LIMITS}
 use Rattle.bx_logic.specs.Op.{first_value}
-use Rattle.bx_engine.specs.Networks.{Node, Edge, IsNetwork, IsValuation, kind_value, one_if, reads, IsBefore, HasKind, HasEdge, IsPath, IsDown, IsUp, leaving, entering, slots, operands}
-use Rattle.bx_engine.specs.Orders.{IsWithin, Precedes}
+use Rattle.bx_forms.specs.Kinds.{operands, slots}
+use Rattle.bx_engine.specs.Networks.{Node, Edge, IsNetwork, IsValuation, kind_value, one_if, reads, IsBefore, HasKind, HasEdge, IsPath, IsDown, IsUp, leaving, entering}
+use Rattle.bx_grid.specs.Orders.{IsWithin, Precedes, IsEarlier}
 use Rattle.bx_engine.specs.Counts.{Late, EachEarlierIsLate}
 use Rattle.bx_engine.specs.ChainNetworks.{inverted, chain_network, link, input_node, not_node, output_node}
 use Rattle.bx_engine.proofs.Networks.{first_false, second_false}
-use Rattle.bx_engine.proofs.Orders.{order_splits, earlier_says}
-use Rattle.bx_engine.proofs.Ascending.{at_or_above, Ascends, Member, Contains-from_member, Member-from_contains, Member-map, Member-map_cases, Member-range, Member-range_bounds, AllByRecursion-from_member, Ascends-map, Ascends-range, AllPairs-from_ascends}
+use Rattle.bx_grid.proofs.Orders.{earlier_is_before}
+use Rattle.bx_grid.proofs.Ascending.{Ascends, at_or_above, Member-range, Member-range_bounds, Ascends-map, Ascends-range, AllPairs-from_ascends}
+use Rattle.bx_grid.proofs.Members.{Member, Contains-from_member, Member-from_contains, Member-map, Member-map_cases, AllByRecursion-from_member}
 
 abbrev links : ℕ → List Edge
 links n = map link (range_with_len 0 n)
@@ -171,10 +173,9 @@ earlier_is_short limits k r (i, inr (same, narrow)) = let a = i.wide in absurd (
 
 pub each_earlier_is_late : (limits : Limits) (k : ℕ) → IsWithin limits (column k) → EachEarlierIsLate limits (chain_network k) (column k)
 each_earlier_is_late limits k i =
-    let (before, earlier) = order_splits limits (column k) i in
-    let late : (r : Ratio) → Member r before → (v : ℕ) × Late (chain_network k) r v =
-    λ r m. (0, late_has k 0 r (omega arith) (earlier_is_short limits k r (earlier_says limits (column k) before earlier r m))) in
-    record { before = before; earlier = earlier; late = AllByRecursion-from_member (λ r. (v : ℕ) × Late (chain_network k) r v) before late }
+    let late : (r : Ratio) → IsEarlier limits r (column k) → (v : ℕ) × Late (chain_network k) r v =
+    λ r e. let before = (earlier_is_before limits r (column k)).0 e in (0, late_has k 0 r (omega arith) (earlier_is_short limits k r (before.0, before.2))) in
+    record { within = i; late = late }
 
 pub each_earlier_is_late_by_default : (k : ℕ) → k ≤ 94 → EachEarlierIsLate DEFAULT_LIMITS (chain_network k) (column k)
 each_earlier_is_late_by_default k h = each_earlier_is_late DEFAULT_LIMITS k (record {

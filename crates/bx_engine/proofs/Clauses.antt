@@ -6,7 +6,7 @@ use Rattle.bx_syntax.specs.Parts.{ModuleTree}
 use Rattle.bx_verilog.specs.Formulas.{Text}
 use Rattle.bx_verilog.specs.Equations.{module_of}
 use Rattle.bx_verilog.specs.Elaboration.{net_of}
-use Rattle.bx_engine.specs.declared.grid.Ratio.{Ratio}
+use Rattle.bx_grid.specs.declared.ratio.Ratio.{Ratio}
 use Rattle.bx_engine.specs.declared.status.InputFault.{InputFault}
 use Rattle.bx_engine.specs.declared.status.Status.{Status}
 use Rattle.bx_engine.specs.declared.status.Status.TheVariants.{Found, Refused, ReadFault, WriteFault, NoMemory, Words}

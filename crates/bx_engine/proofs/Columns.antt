@@ -6,16 +6,17 @@ use Rattle.std.proofs.lemmas.Bool.{cases_lt, cases_eq, ne_eqb, le-leb, lt-leb, l
 use Rattle.std.proofs.lemmas.List.FromFn.{get_or-map-range_with_len, length-map-range_with_len}
 use Rattle.std.proofs.lemmas.List.{get_or_past}
 use Rattle.bx_logic.specs.Op.{first_value}
-use Rattle.bx_engine.specs.declared.grid.Ratio.{Ratio}
-use Rattle.bx_engine.specs.declared.forms.Kind.TheVariants.{Input, Output, Not}
-use Rattle.bx_engine.specs.declared.forms.Side.{Side}
-use Rattle.bx_engine.specs.declared.forms.Side.TheVariants.{Left, Right}
-use Rattle.bx_engine.specs.declared.forms.Shape.{Shape}
-use Rattle.bx_engine.specs.Forms.{opposite, shape_of, shape_takes, shape_sends, shape_holds}
-use Rattle.bx_engine.specs.Tiles.{x_of, y_of, is_odd, one_less, column_beside, tile_at, above, below, border, entering}
+use Rattle.bx_grid.specs.declared.ratio.Ratio.{Ratio}
+use Rattle.bx_forms.specs.declared.kind.Kind.TheVariants.{Input, Output, Not}
+use Rattle.bx_forms.specs.declared.side.Side.{Side}
+use Rattle.bx_forms.specs.declared.side.Side.TheVariants.{Left, Right}
+use Rattle.bx_forms.specs.declared.table.Shape.{Shape}
+use Rattle.bx_forms.specs.Forms.{IsForm, shape_of, shape_node, shape_upper, shape_lower}
+use Rattle.bx_forms.specs.Sides.{opposite, is_used}
+use Rattle.bx_grid.specs.Tiles.{x_of, y_of, is_odd, one_less, column_beside, tile_at, above, below, border, entering}
 use Rattle.bx_engine.specs.Grids.{FormGrid, shape_in, shape_at, takes, sends, sends_from, Holds, IsFormGrid, IsSound, value_of, reads, shape_value, sent, IsBorderValuation}
 use Rattle.bx_engine.specs.Columns.{column, column_form, column_tiles, input_r, output_l, output_r, not_ll, not_rr}
-use Rattle.bx_engine.proofs.Tiles.{is_odd-suc}
+use Rattle.bx_grid.proofs.Neighbours.{is_odd-suc}
 use Rattle.bx_engine.specs.ChainNetworks.{inverted}
 
 -- the side on which an odd row goes on, and an even one
@@ -101,6 +102,12 @@ shape-last k t h =
 
 -- what they use
 
+abbrev shape_takes : Option Shape → Side → Bool
+shape_takes shape side = is_used (shape_upper shape) side
+
+abbrev shape_sends : Option Shape → Side → Bool
+shape_sends shape side = is_used (shape_lower shape) side
+
 abbrev shape_takes_at : Side → Option Shape → Bool
 shape_takes_at side shape = shape_takes shape side
 
@@ -108,12 +115,12 @@ abbrev shape_sends_at : Side → Option Shape → Bool
 shape_sends_at side shape = shape_sends shape side
 
 inner-uses : (b : Bool) → let s : Option Shape = shape_of (inner_form b) in
-    (shape_takes s (way b) ≡ true) × (shape_takes s (opposite (way b)) ≡ false) × (shape_sends s (way b) ≡ true) × (shape_sends s (opposite (way b)) ≡ false) × (shape_holds s ≡ Some Not)
+    (shape_takes s (way b) ≡ true) × (shape_takes s (opposite (way b)) ≡ false) × (shape_sends s (way b) ≡ true) × (shape_sends s (opposite (way b)) ≡ false) × (shape_node s ≡ Some Not)
 inner-uses true = (refl, refl, refl, refl, refl)
 inner-uses false = (refl, refl, refl, refl, refl)
 
 last-uses : (b : Bool) → let s : Option Shape = shape_of (last_form b) in
-    (shape_takes s (way b) ≡ true) × (shape_takes s (opposite (way b)) ≡ false) × (shape_sends s (way b) ≡ false) × (shape_sends s (opposite (way b)) ≡ false) × (shape_holds s ≡ Some Output)
+    (shape_takes s (way b) ≡ true) × (shape_takes s (opposite (way b)) ≡ false) × (shape_sends s (way b) ≡ false) × (shape_sends s (opposite (way b)) ≡ false) × (shape_node s ≡ Some Output)
 last-uses true = (refl, refl, refl, refl, refl)
 last-uses false = (refl, refl, refl, refl, refl)
 
@@ -148,13 +155,13 @@ sends-last k t side h = ap (shape_sends_at side) (shape-last k t h) ∙ elim (ca
 ]
 
 pub holds-first : (k : ℕ) → Holds (column k) 0 Input
-holds-first k = ap shape_holds (shape-first k)
+holds-first k = ap shape_node (shape-first k)
 
 holds-inner : (k t : ℕ) → 0 < t → t ≤ k → Holds (column k) t Not
-holds-inner k t p l = ap shape_holds (shape-inner k t p l) ∙ (inner-uses (is_odd t)).4
+holds-inner k t p l = ap shape_node (shape-inner k t p l) ∙ (inner-uses (is_odd t)).4
 
 pub holds-last : (k t : ℕ) → t ≡ k + 1 → Holds (column k) t Output
-holds-last k t h = ap shape_holds (shape-last k t h) ∙ (last-uses (is_odd t)).4
+holds-last k t h = ap shape_node (shape-last k t h) ∙ (last-uses (is_odd t)).4
 
 -- a tile holds an input form only where it is the first, and an output form only where it is the last
 

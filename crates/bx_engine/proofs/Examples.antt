@@ -5,18 +5,19 @@ use Rattle.std.specs.Str.{bytes_eq}
 use Rattle.std.proofs.lemmas.Bool.{cases_eq, false_from_ne_true}
 use Rattle.std.proofs.lemmas.Slice.Eq.{bytes_eq-Decides}
 use Rattle.std.proofs.lemmas.List.{get_or-take}
-use Rattle.bx_engine.specs.declared.forms.Kind.TheVariants.{Input, Output}
-use Rattle.bx_engine.specs.declared.forms.Side.{Side}
-use Rattle.bx_engine.specs.declared.forms.Side.TheVariants.{Left, Right}
+use Rattle.bx_forms.specs.declared.kind.Kind.TheVariants.{Input, Output}
+use Rattle.bx_forms.specs.declared.side.Side.{Side}
+use Rattle.bx_forms.specs.declared.side.Side.TheVariants.{Left, Right}
 use Rattle.bx_verilog.specs.Formulas.{Text}
 use Rattle.bx_verilog.specs.Equations.{Assignment, Gives}
-use Rattle.bx_engine.specs.Forms.{opposite, shape_holds}
-use Rattle.bx_engine.specs.Tiles.{y_of, above, below, border}
+use Rattle.bx_forms.specs.Forms.{shape_node}
+use Rattle.bx_forms.specs.Sides.{opposite}
+use Rattle.bx_grid.specs.Tiles.{y_of, above, below, border}
 use Rattle.bx_engine.specs.Grids.{shape_in, takes, sends, sends_from, Holds, IsEmpty, IsSound, sent, IsBorderValuation, IsOnlyBorderValuation, Computes, FormGrid, given_at}
 use Rattle.bx_engine.specs.Columns.{column, column_tiles}
 use Rattle.bx_engine.specs.Examples.{wired, cut_short, negation, three_row_pins, conjoined, conjoined_borders, conjoined_pins, conjunction_of}
 use Rattle.bx_engine.proofs.Valuations.{only-valuation}
-use Rattle.bx_engine.proofs.FormTable.{at-sides}
+use Rattle.bx_forms.proofs.Tables.{at-sides}
 use Rattle.bx_engine.proofs.Columns.{tile-column, output-only}
 
 -- the numbers below n, one by one, from the greatest
@@ -147,7 +148,7 @@ cut_short-not-sound k s =
     elim (s.last k (omega arith) (omega arith)) [
       | inl e ↦ let here = tile-column k k (omega arith) in cc
       | inr o ↦
-          let held : Holds (column k) k Output = sym (ap (λ tile. shape_holds (shape_in tile)) same) ∙ o in
+          let held : Holds (column k) k Output = sym (ap (λ tile. shape_node (shape_in tile)) same) ∙ o in
           let e = output-only k k (omega arith) held in
           omega arith
     ]

@@ -1,12 +1,12 @@
 -- What goes out of a tile of a sound grid comes in at the tile below.
 use Rattle.std.proofs.Common.{◌≡◌, ℕ, ◌<◌, Some, None, refl, ◌∙◌, ap}
 use Rattle.std.specs.Prelude.{Option, IsSome, IsTrue}
-use Rattle.bx_engine.specs.declared.forms.Side.{Side}
-use Rattle.bx_engine.specs.declared.forms.Side.TheVariants.{Left, Right}
-use Rattle.bx_engine.specs.Forms.{opposite}
-use Rattle.bx_engine.specs.Tiles.{tile_count, below}
+use Rattle.bx_forms.specs.declared.side.Side.{Side}
+use Rattle.bx_forms.specs.declared.side.Side.TheVariants.{Left, Right}
+use Rattle.bx_forms.specs.Sides.{opposite}
+use Rattle.bx_grid.specs.Tiles.{tile_count, below}
 use Rattle.bx_engine.specs.Grids.{FormGrid, IsSound, takes, sends, sends_from}
-use Rattle.bx_engine.proofs.Tiles.{below-above, below-inside}
+use Rattle.bx_grid.proofs.Neighbours.{below-above, below-inside}
 
 some-of : (o : Option ℕ) → IsSome o → (u : ℕ) × (o ≡ Some u)
 some-of None h = cc

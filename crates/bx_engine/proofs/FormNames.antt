@@ -5,7 +5,7 @@ use Rattle.std.specs.List.{list_all, position, range_with_len}
 use Rattle.std.specs.Str.{bytes_eq}
 use Rattle.std.proofs.lemmas.Bool.{cases_eq, eqb-true, and_parts}
 use Rattle.bx_verilog.specs.Formulas.{Text}
-use Rattle.bx_engine.specs.declared.forms.TheConstants.{FORMS}
+use Rattle.bx_forms.specs.declared.table.TheConstants.{FORMS}
 use Rattle.bx_engine.specs.Texts.{tile_name, IsPlain}
 use Rattle.bx_engine.proofs.PlainTexts.{is_plain, plain-tested}
 

@@ -4,7 +4,7 @@ use Rattle.std.proofs.Common.{ℕ, ◌+◌, Bool, List, [], ◌∷◌, inl, refl
 use Rattle.bx_logic.specs.Nets.{Netlist}
 use Rattle.bx_verilog.specs.Formulas.{Text}
 use Rattle.bx_verilog.specs.Equations.{Module, Assignment, Gives}
-use Rattle.bx_engine.specs.Tiles.{tile_count}
+use Rattle.bx_grid.specs.Tiles.{tile_count}
 use Rattle.bx_engine.specs.Grids.{given_at, Computes, AreUsed, ArePins}
 use Rattle.bx_engine.specs.Chains.{IsChain, input_name, output_name}
 use Rattle.bx_engine.specs.ChainNetworks.{inverted}

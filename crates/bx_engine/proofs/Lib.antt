@@ -1,4 +1,3 @@
-pub mod Table
 pub mod Valuations
 pub mod Chains
 pub mod Walks
@@ -7,18 +6,14 @@ pub mod Layouts
 pub mod Meanings
 pub mod Modules
 pub mod Pins
-pub mod Ascending
 pub mod BranchingNetworks
 pub mod ChainNetworks
 pub mod Networks
-pub mod Orders
 pub mod Saying
 pub mod Joined
 pub mod Lines
 pub mod Examples
 pub mod TwoLines
-pub mod FormTable
-pub mod Tiles
 pub mod Flow
 pub mod Endings
 pub mod Designs

@@ -4,7 +4,7 @@ use Rattle.std.proofs.Common.{◌≡◌, ℕ, zero, suc, ◌+◌, min, Bool, Lis
 use Rattle.std.specs.Prelude.{slice_get, slice_index_or}
 use Rattle.bx_verilog.specs.Formulas.{Text}
 use Rattle.bx_verilog.specs.Equations.{Module, Assignment, Gives}
-use Rattle.bx_engine.specs.declared.forms.Kind.TheVariants.{Input, Output, Not}
+use Rattle.bx_forms.specs.declared.kind.Kind.TheVariants.{Input, Output, Not}
 use Rattle.bx_engine.specs.Networks.{Node, IsValuation}
 use Rattle.bx_engine.specs.ChainNetworks.{chain_network, not_node, output_node, inverted}
 use Rattle.bx_engine.specs.Meanings.{port_value, NetworkComputes}

@@ -14,8 +14,8 @@ use Rattle.bx_verilog.specs.Elaboration.{net_of}
 use Rattle.bx_engine.specs.Runs.{IsLaidOut}
 use Rattle.bx_engine.specs.Columns.{column, column_pins}
 use Rattle.bx_engine.proofs.Columns.{column-whole}
-use Rattle.bx_engine.specs.declared.grid.Ratio.{Ratio}
-use Rattle.bx_engine.specs.Tiles.{tile_count, x_of, y_of}
+use Rattle.bx_grid.specs.declared.ratio.Ratio.{Ratio}
+use Rattle.bx_grid.specs.Tiles.{tile_count, x_of, y_of}
 use Rattle.bx_engine.specs.Rows.{row_tiles}
 use Rattle.bx_engine.specs.Grids.{FormGrid, IsFormGrid, Pin, Pins}
 use Rattle.bx_engine.specs.Networks.{Network}

@@ -1,11 +1,11 @@
 -- A `double` and a `cross` below two inputs.
 use Rattle.std.proofs.Common.{◌≡◌, ℕ, ◌+◌, Bool, List, [], ◌∷◌, refl, ap, ◌∙◌, arith, inl, inr}
 use Rattle.std.specs.Prelude.{IsTrue, IsSome, ◌⊎◌}
-use Rattle.bx_engine.specs.declared.forms.Kind.TheVariants.{Input, Output}
-use Rattle.bx_engine.specs.declared.forms.Side.{Side}
-use Rattle.bx_engine.specs.declared.forms.Side.TheVariants.{Left, Right}
-use Rattle.bx_engine.specs.Forms.{opposite}
-use Rattle.bx_engine.specs.Tiles.{y_of, above, below}
+use Rattle.bx_forms.specs.declared.kind.Kind.TheVariants.{Input, Output}
+use Rattle.bx_forms.specs.declared.side.Side.{Side}
+use Rattle.bx_forms.specs.declared.side.Side.TheVariants.{Left, Right}
+use Rattle.bx_forms.specs.Sides.{opposite}
+use Rattle.bx_grid.specs.Tiles.{y_of, above, below}
 use Rattle.bx_engine.specs.Grids.{FormGrid, takes, sends, sends_from, Holds, IsEmpty, IsSound, IsBorderValuation}
 use Rattle.bx_engine.specs.Examples.{double, cross, two_lines, AreRead}
 use Rattle.bx_engine.proofs.Examples.{EachBelow, each-below, each-side}

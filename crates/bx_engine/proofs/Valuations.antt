@@ -4,12 +4,12 @@ use Rattle.std.proofs.Common.{◌≡◌, ℕ, zero, suc, ◌+◌, ◌*◌, ◌<�
 use Rattle.std.specs.Prelude.{Option, if◌then◌else◌, option_map}
 use Rattle.std.proofs.lemmas.Bool.{cases_lt, cases_eq}
 use Rattle.std.proofs.lemmas.List.{ext_get_or, get_or_append_left, get_or-append-add}
-use Rattle.bx_engine.specs.declared.forms.Side.{Side}
-use Rattle.bx_engine.specs.declared.forms.Side.TheVariants.{Left, Right}
-use Rattle.bx_engine.specs.Forms.{opposite}
-use Rattle.bx_engine.specs.Tiles.{tile_count, above, border, entering}
+use Rattle.bx_forms.specs.declared.side.Side.{Side}
+use Rattle.bx_forms.specs.declared.side.Side.TheVariants.{Left, Right}
+use Rattle.bx_forms.specs.Sides.{opposite}
+use Rattle.bx_grid.specs.Tiles.{tile_count, above, border, entering}
 use Rattle.bx_engine.specs.Grids.{FormGrid, shape_at, sends, value_of, reads, shape_value, sent, IsBorderValuation, IsOnlyBorderValuation}
-use Rattle.bx_engine.proofs.Tiles.{above-less}
+use Rattle.bx_grid.proofs.Neighbours.{above-less}
 
 -- the two lists have the same first n values
 abbrev pub AgreeBelow : ℕ → List Bool → List Bool → Type 0

@@ -1,7 +1,7 @@
 -- A small network with two ways from its input to its output: `and` of a value and its inversion.
 use Rattle.std.specs.Prelude.{ℕ, [], ◌∷◌}
-use Rattle.bx_engine.specs.declared.forms.Kind.{Kind}
-use Rattle.bx_engine.specs.declared.forms.Kind.TheVariants.{Input, Output, Not, Fan, And}
+use Rattle.bx_forms.specs.declared.kind.Kind.{Kind}
+use Rattle.bx_forms.specs.declared.kind.Kind.TheVariants.{Input, Output, Not, Fan, And}
 use Rattle.bx_engine.specs.Networks.{Node, Edge, Network}
 
 abbrev pub node : Kind → Node

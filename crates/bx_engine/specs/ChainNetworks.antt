@@ -2,7 +2,7 @@
 -- joined to the next. A `buf` has no node.
 use Rattle.std.specs.Prelude.{ℕ, zero, suc, Bool, not, ◌+◌, [], ◌∷◌, ◌++◌, map, replicate}
 use Rattle.std.specs.List.{range_with_len}
-use Rattle.bx_engine.specs.declared.forms.Kind.TheVariants.{Input, Output, Not}
+use Rattle.bx_forms.specs.declared.kind.Kind.TheVariants.{Input, Output, Not}
 use Rattle.bx_engine.specs.Networks.{Node, Edge, Network}
 
 abbrev pub input_node : Node

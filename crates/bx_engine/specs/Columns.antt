@@ -3,7 +3,7 @@ use Rattle.std.specs.Prelude.{◌==◌, ℕ, ◌+◌, if◌then◌else◌, nat_l
 use Rattle.std.specs.List.{range_with_len}
 use Rattle.bx_logic.specs.Nets.{Netlist}
 use Rattle.bx_engine.specs.Chains.{input_name, output_name}
-use Rattle.bx_engine.specs.Tiles.{is_odd}
+use Rattle.bx_grid.specs.Tiles.{is_odd}
 use Rattle.bx_engine.specs.Grids.{FormGrid, Pins}
 
 -- the numbers of the forms that it is made of

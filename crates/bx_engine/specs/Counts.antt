@@ -1,10 +1,9 @@
 -- The counting inequality: a longest path has more nodes than a ratio has rows.
-use Rattle.std.specs.Prelude.{ℕ, ◌+◌, ◌<◌, ◌≤◌, List, length}
-use Rattle.std.specs.List.{AllByRecursion}
-use Rattle.bx_engine.specs.declared.grid.Ratio.{Ratio}
-use Rattle.bx_engine.specs.declared.grid.Limits.{Limits}
+use Rattle.std.specs.Prelude.{ℕ, ◌+◌, ◌<◌, ◌≤◌, length}
+use Rattle.bx_grid.specs.declared.ratio.Ratio.{Ratio}
+use Rattle.bx_grid.specs.declared.ratio.Limits.{Limits}
+use Rattle.bx_grid.specs.Orders.{IsWithin, IsEarlier}
 use Rattle.bx_engine.specs.Networks.{Network, IsDown, IsUp}
-use Rattle.bx_engine.specs.Orders.{Earlier}
 
 -- a longest path through this node has at least as many edges as there are rows, and so one node too many
 pub record Late (N : Network) (ratio : Ratio) (v : ℕ) : Type 0 where
@@ -15,8 +14,7 @@ pub record Late (N : Network) (ratio : Ratio) (v : ℕ) : Type 0 where
   pub is_up : IsUp N v up
   pub late : ratio.h ≤ down + up
 
--- on each ratio before this one in the order some node is late
+-- the ratio is one of the order, and on each before it some node is late
 pub record EachEarlierIsLate (limits : Limits) (N : Network) (ratio : Ratio) : Type 0 where
-  pub before : List Ratio
-  pub earlier : Earlier limits ratio before
-  pub late : AllByRecursion (λ r. (v : ℕ) × Late N r v) before
+  pub within : IsWithin limits ratio
+  pub late : (earlier : Ratio) → IsEarlier limits earlier ratio → (v : ℕ) × Late N earlier v

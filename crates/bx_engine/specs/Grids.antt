@@ -7,36 +7,29 @@ use Rattle.bx_logic.specs.declared.driver.Driver.TheVariants.{Input as InputDriv
 use Rattle.bx_logic.specs.Nets.{Netlist, driver_at, output_names, output_nets, DependsOn}
 use Rattle.bx_verilog.specs.Formulas.{Text}
 use Rattle.bx_verilog.specs.Equations.{Module, Assignment, Gives}
-use Rattle.bx_engine.specs.declared.grid.Ratio.{Ratio}
-use Rattle.bx_engine.specs.declared.forms.Kind.{Kind}
-use Rattle.bx_engine.specs.declared.forms.Kind.TheVariants.{Input, Output}
-use Rattle.bx_engine.specs.declared.forms.Side.{Side}
-use Rattle.bx_engine.specs.declared.forms.Side.TheVariants.{Left, Right}
-use Rattle.bx_engine.specs.declared.forms.Shape.{Shape}
-use Rattle.bx_engine.specs.Forms.{shape_of, shape_takes, shape_sends, shape_holds, opposite, function_value}
-use Rattle.bx_engine.specs.Tiles.{tile_count, y_of, below, above, border, entering}
+use Rattle.bx_grid.specs.declared.ratio.Ratio.{Ratio}
+use Rattle.bx_forms.specs.declared.kind.Kind.{Kind}
+use Rattle.bx_forms.specs.declared.kind.Kind.TheVariants.{Input, Output}
+use Rattle.bx_forms.specs.declared.side.Side.{Side}
+use Rattle.bx_forms.specs.declared.side.Side.TheVariants.{Left, Right}
+use Rattle.bx_forms.specs.declared.table.Shape.{Shape}
+use Rattle.bx_forms.specs.declared.table.Function.{Function}
+use Rattle.bx_forms.specs.declared.table.Function.TheVariants.{Given}
+use Rattle.bx_forms.specs.Forms.{IsForm, shape_of, shape_node, shape_upper, shape_lower, function_value}
+use Rattle.bx_forms.specs.Sides.{opposite, is_used}
+use Rattle.bx_grid.specs.Tiles.{tile_count, IsTile, IsInFirstRow, IsInLastRow, y_of, below, above, border, entering}
 
 -- for each tile the number of its form, or none where it is empty
 pub record FormGrid : Type 0 where
   pub ratio : Ratio
   pub tiles : List (Option ℕ)
 
--- the sides are at least 1, there are w * h tiles, and each form is one of the 28
+-- the sides are at least 1, there are w * h tiles, and each form is one of the table
 pub record IsFormGrid (g : FormGrid) : Type 0 where
   pub wide : 1 ≤ g.ratio.w
   pub high : 1 ≤ g.ratio.h
   pub whole : length g.tiles ≡ tile_count g.ratio
-  pub forms : (t form : ℕ) → slice_index_or g.tiles t None ≡ Some form → form < 28
-
--- the number is that of a tile, and the tile stands in the first or last row
-abbrev pub IsTile : FormGrid → ℕ → Type 0
-IsTile g t = t < tile_count g.ratio
-
-abbrev pub IsInFirstRow : FormGrid → ℕ → Type 0
-IsInFirstRow g t = y_of g.ratio t ≡ 0
-
-abbrev pub IsInLastRow : FormGrid → ℕ → Type 0
-IsInLastRow g t = y_of g.ratio t + 1 ≡ g.ratio.h
+  pub forms : (t form : ℕ) → slice_index_or g.tiles t None ≡ Some form → IsForm form
 
 abbrev pub shape_in : Option ℕ → Option Shape
 shape_in None = None
@@ -48,10 +41,10 @@ shape_at g t = shape_in (slice_index_or g.tiles t None)
 
 -- whether something comes in, and goes out, on this side of a tile
 abbrev pub takes : FormGrid → ℕ → Side → Bool
-takes g t side = shape_takes (shape_at g t) side
+takes g t side = is_used (shape_upper (shape_at g t)) side
 
 abbrev pub sends : FormGrid → ℕ → Side → Bool
-sends g t side = shape_sends (shape_at g t) side
+sends g t side = is_used (shape_lower (shape_at g t)) side
 
 -- nothing goes out where there is no tile
 abbrev pub sends_from : FormGrid → Option ℕ → Side → Bool
@@ -60,7 +53,7 @@ sends_from g (Some t) side = sends g t side
 
 -- the form on the tile holds a node of this kind
 abbrev pub Holds : FormGrid → ℕ → Kind → Type 0
-Holds g t kind = shape_holds (shape_at g t) ≡ Some kind
+Holds g t kind = shape_node (shape_at g t) ≡ Some kind
 
 abbrev pub IsEmpty : FormGrid → ℕ → Type 0
 IsEmpty g t = slice_index_or g.tiles t None ≡ None
@@ -70,19 +63,19 @@ pub record IsSound (g : FormGrid) : Type 0 where
   pub wide : 1 ≤ g.ratio.w
   pub high : 1 ≤ g.ratio.h
   -- a tile takes on exactly those upper sides on which the tile above goes out
-  pub meets : (t : ℕ) (side : Side) → IsTile g t → takes g t side ≡ sends_from g (above g.ratio t side) (opposite side)
+  pub meets : (t : ℕ) (side : Side) → IsTile g.ratio t → takes g t side ≡ sends_from g (above g.ratio t side) (opposite side)
   -- nothing leads off the grid
-  pub stays : (t : ℕ) (side : Side) → IsTile g t → IsTrue (sends g t side) → IsSome (below g.ratio t side)
+  pub stays : (t : ℕ) (side : Side) → IsTile g.ratio t → IsTrue (sends g t side) → IsSome (below g.ratio t side)
   -- input forms stand in the first row only, and output forms in the last
-  pub inputs : (t : ℕ) → IsTile g t → Holds g t Input → IsInFirstRow g t
-  pub outputs : (t : ℕ) → IsTile g t → Holds g t Output → IsInLastRow g t
+  pub inputs : (t : ℕ) → IsTile g.ratio t → Holds g t Input → IsInFirstRow g.ratio t
+  pub outputs : (t : ℕ) → IsTile g.ratio t → Holds g t Output → IsInLastRow g.ratio t
   -- nothing else stands there
-  pub first : (t : ℕ) → IsTile g t → IsInFirstRow g t → IsEmpty g t ⊎ Holds g t Input
-  pub last : (t : ℕ) → IsTile g t → IsInLastRow g t → IsEmpty g t ⊎ Holds g t Output
+  pub first : (t : ℕ) → IsTile g.ratio t → IsInFirstRow g.ratio t → IsEmpty g t ⊎ Holds g t Input
+  pub last : (t : ℕ) → IsTile g.ratio t → IsInLastRow g.ratio t → IsEmpty g t ⊎ Holds g t Output
 
 -- what goes out of a tile comes in at the tile below
 abbrev pub LosesNothing : FormGrid → Type 0
-LosesNothing g = (t : ℕ) (side : Side) → IsTile g t → IsTrue (sends g t side) →
+LosesNothing g = (t : ℕ) (side : Side) → IsTile g.ratio t → IsTrue (sends g t side) →
     (u : ℕ) × (below g.ratio t side ≡ Some u) × IsTrue (takes g u (opposite side))
 
 -- the value of a border, false where there is none
@@ -96,9 +89,14 @@ reads g borders t =
     (if takes g t Left then value_of borders (entering g.ratio t Left) ∷ [] else [])
     ++ (if takes g t Right then value_of borders (entering g.ratio t Right) ∷ [] else [])
 
+-- what a form reads: the value that is given from outside, or the values that come in
+abbrev pub values_read : Function → Bool → List Bool → List Bool
+values_read Given given values = given ∷ []
+values_read _ given values = values
+
 abbrev pub shape_value : Option Shape → Bool → List Bool → Side → Bool
 shape_value None given values side = false
-shape_value (Some shape) given values side = function_value shape.function given values side
+shape_value (Some shape) given values side = function_value shape.function (values_read shape.function given values) side
 
 -- what goes out of a tile on a lower side, by its form: false on a side that isn't used
 abbrev pub sent : FormGrid → (ℕ → Bool) → List Bool → ℕ → Side → Bool
@@ -108,7 +106,7 @@ sent g given borders t side = if sends g t side then shape_value (shape_at g t) 
 -- which for an input form is its given value
 pub record IsBorderValuation (g : FormGrid) (given : ℕ → Bool) (borders : List Bool) : Type 0 where
   pub all : length borders ≡ 2 * tile_count g.ratio
-  pub each : (t : ℕ) (side : Side) → IsTile g t → slice_index_or borders (border t side) false ≡ sent g given borders t side
+  pub each : (t : ℕ) (side : Side) → IsTile g.ratio t → slice_index_or borders (border t side) false ≡ sent g given borders t side
 
 -- there is one valuation, and no other
 pub record IsOnlyBorderValuation (g : FormGrid) (given : ℕ → Bool) (borders : List Bool) : Type 0 where
@@ -152,12 +150,12 @@ pub record ArePins (g : FormGrid) (net : Netlist) (pins : Pins) : Type 0 where
   -- one tile of the first row for each used input, and one of the last row for each output
   pub inputs : AreUsed net 0 net.inputs (pin_names pins.inputs)
   pub outputs : pin_names pins.outputs ≡ output_names net
-  pub first : AllByRecursion (λ t. IsTile g t × IsInFirstRow g t × Holds g t Input) (pin_tiles pins.inputs)
-  pub last : AllByRecursion (λ t. IsTile g t × IsInLastRow g t × Holds g t Output) (pin_tiles pins.outputs)
+  pub first : AllByRecursion (λ t. IsTile g.ratio t × IsInFirstRow g.ratio t × Holds g t Input) (pin_tiles pins.inputs)
+  pub last : AllByRecursion (λ t. IsTile g.ratio t × IsInLastRow g.ratio t × Holds g t Output) (pin_tiles pins.outputs)
   pub apart : AreDistinct (pin_tiles pins.inputs ++ pin_tiles pins.outputs)
   -- no other tile holds an input or an output form
-  pub no_more_inputs : (t : ℕ) → IsTile g t → Holds g t Input → Contains (pin_tiles pins.inputs) t
-  pub no_more_outputs : (t : ℕ) → IsTile g t → Holds g t Output → Contains (pin_tiles pins.outputs) t
+  pub no_more_inputs : (t : ℕ) → IsTile g.ratio t → Holds g t Input → Contains (pin_tiles pins.inputs) t
+  pub no_more_outputs : (t : ℕ) → IsTile g.ratio t → Holds g t Output → Contains (pin_tiles pins.outputs) t
 
 -- the value of the input whose pin is this tile
 abbrev pub given_at : List Pin → Assignment → ℕ → Bool

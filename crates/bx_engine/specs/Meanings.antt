@@ -1,7 +1,7 @@
 -- What a mapped network means for the module that it came from.
 use Rattle.std.specs.Prelude.{◌≡◌, ℕ, ◌<◌, Bool, [], length, slice_get, slice_index_or, Some}
 use Rattle.bx_verilog.specs.Equations.{Module, Assignment, Gives}
-use Rattle.bx_engine.specs.declared.forms.Kind.TheVariants.{Output}
+use Rattle.bx_forms.specs.declared.kind.Kind.TheVariants.{Output}
 use Rattle.bx_engine.specs.Networks.{Node, Network, IsValuation}
 
 -- the value of the input with this number

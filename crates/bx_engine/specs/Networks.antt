@@ -2,8 +2,9 @@
 use Rattle.std.specs.Prelude.{◌≡◌, ℕ, zero, suc, ◌<◌, ◌≤◌, ◌==◌, ◌&&◌, nat_lt, ◌⊎◌, if◌then◌else◌, List, length, slice_get, Some, Contains, AllPairs, Bool, not, ◌++◌, map, filter}
 use Rattle.std.specs.List.{AllByRecursion}
 use Rattle.bx_logic.specs.Op.{conjunction, disjunction, parity, first_value}
-use Rattle.bx_engine.specs.declared.forms.Kind.{Kind}
-use Rattle.bx_engine.specs.declared.forms.Kind.TheVariants.{Input, Output, Not, Fan, And, Or, Nand, Nor, Xor, Xnor}
+use Rattle.bx_forms.specs.Kinds.{operands, slots}
+use Rattle.bx_forms.specs.declared.kind.Kind.{Kind}
+use Rattle.bx_forms.specs.declared.kind.Kind.TheVariants.{Input, Output, Not, Fan, And, Or, Nand, Nor, Xor, Xnor}
 
 -- port: the number of an input or an output in the module, and 0 at other kinds
 pub record Node : Type 0 where
@@ -20,25 +21,6 @@ pub record Edge : Type 0 where
 pub record Network : Type 0 where
   pub nodes : List Node
   pub edges : List Edge
-
--- how many edges enter a node of this kind
-abbrev pub operands : Kind → ℕ
-operands Input = 0
-operands Output = 1
-operands Not = 1
-operands Fan = 1
-operands And = 2
-operands Or = 2
-operands Nand = 2
-operands Nor = 2
-operands Xor = 2
-operands Xnor = 2
-
--- how many edges leave a node of this kind
-abbrev pub slots : Kind → ℕ
-slots Output = 0
-slots Fan = 2
-slots _ = 1
 
 -- the edges that leave this node by this slot
 abbrev pub leaving : List Edge → ℕ → ℕ → List Edge

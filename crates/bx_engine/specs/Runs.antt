@@ -14,7 +14,7 @@ use Rattle.bx_verilog.specs.Formulas.{Text}
 use Rattle.bx_verilog.specs.Faults.{IsAccepted, IsFault}
 use Rattle.bx_verilog.specs.Equations.{Module}
 use Rattle.bx_verilog.specs.Elaboration.{net_of}
-use Rattle.bx_engine.specs.declared.grid.Ratio.{Ratio}
+use Rattle.bx_grid.specs.declared.ratio.Ratio.{Ratio}
 use Rattle.bx_engine.specs.declared.grid.TheConstants.{DEFAULT_LIMITS}
 use Rattle.bx_engine.specs.Chains.{IsChain}
 use Rattle.bx_engine.specs.Grids.{FormGrid, Pins, IsFormGrid, IsSound, ArePins, Computes}

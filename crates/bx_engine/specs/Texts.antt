@@ -10,16 +10,16 @@ use Rattle.bx_syntax.specs.declared.fault.ReadFault.{ReadFault}
 use Rattle.bx_syntax.specs.declared.fault.ReadFault.TheVariants.{Syntax, NotTaken, TooDeep, NoMemory as ReadNoMemory}
 use Rattle.bx_verilog.specs.declared.fault.NetFault.{NetFault}
 use Rattle.bx_verilog.specs.declared.fault.NetFault.TheVariants.{BadPort, NoOutput, TwoDrivers, NoDriver, Cycle, NoMemory as NetNoMemory}
-use Rattle.bx_engine.specs.declared.grid.Ratio.{Ratio}
+use Rattle.bx_grid.specs.declared.ratio.Ratio.{Ratio}
 use Rattle.bx_engine.specs.declared.status.InputFault.{InputFault}
 use Rattle.bx_engine.specs.declared.status.InputFault.TheVariants.{TooLong, Lex, Read, Net, NotBuilt}
 use Rattle.bx_engine.specs.declared.status.Which.{Which}
 use Rattle.bx_engine.specs.declared.status.Which.TheVariants.{NetFile, Output}
 use Rattle.bx_engine.specs.declared.status.WordFault.{WordFault}
 use Rattle.bx_engine.specs.declared.status.WordFault.TheVariants.{Command}
-use Rattle.bx_engine.specs.Forms.{form_name}
-use Rattle.bx_engine.specs.Tiles.{x_of, y_of}
-use Rattle.bx_engine.specs.Grids.{FormGrid, IsFormGrid, IsTile, Pin, Pins}
+use Rattle.bx_forms.specs.Forms.{form_name}
+use Rattle.bx_grid.specs.Tiles.{IsTile, x_of, y_of}
+use Rattle.bx_engine.specs.Grids.{FormGrid, IsFormGrid, Pin, Pins}
 use Rattle.bx_engine.specs.Networks.{Network}
 use Rattle.bx_engine.specs.Rows.{row_tiles}
 
@@ -68,7 +68,7 @@ IsPlain text = AllByRecursion (λ byte. (byte ≢ 32) × (byte ≢ 10)) text
 
 -- a plain name, on a tile of the grid
 abbrev pub IsPlainPin : FormGrid → Pin → Type 0
-IsPlainPin g pin = IsPlain pin.name × IsTile g pin.tile
+IsPlainPin g pin = IsPlain pin.name × IsTile g.ratio pin.tile
 
 -- a layout that a report can tell from any other: names of one word, a form grid whose sides are
 -- numbers of 32 bits, as those of a `Ratio` are, and ports on its tiles

@@ -5,8 +5,9 @@ ghost use Rattle.std.specs.Prelude.{◌≡◌, ◌≤◌, ◌+◌, ◌<◌, IfOk
 ghost use Rattle.bx_engine.specs.Chains.{most_inversions};
 ghost use Rattle.bx_engine.specs.Columns.{column as column_of, column_form, column_tiles};
 
-use crate::forms::Form;
-use crate::grid::{FormGrid, Ratio};
+use crate::grid::FormGrid;
+use bx_forms::Form;
+use bx_grid::Ratio;
 use bx_logic::NoMemory;
 use std::alloc::Global;
 

@@ -15,7 +15,7 @@ ghost use Rattle.bx_engine.specs.ChainNetworks.{chain_network};
 ghost use Rattle.bx_engine.specs.Columns.{column as column_of};
 ghost use Rattle.bx_engine.specs.Reports.{report_of};
 ghost use Rattle.bx_engine.specs.Endings.{EndsSaying};
-ghost use Rattle.bx_engine.specs.declared.grid.Ratio.{Ratio as Sides};
+ghost use Rattle.bx_grid.specs.declared.ratio.Ratio.{Ratio as Sides};
 ghost use Rattle.bx_engine.specs.declared.status.Which.{Which as Place};
 ghost use Rattle.bx_engine.specs.declared.status.InputFault.{InputFault as Fault};
 ghost use Rattle.bx_engine.specs.declared.status.Status.{Status as Ending};

@@ -1,32 +1,12 @@
-//! Ratios of a hexagonal grid, and the limits within which they are searched. Rows run from the
-//! inputs down to the outputs, and a signal goes only from a row to the next. A form grid holds a form
-//! or nothing on each tile, and promises no more than that: whether it is sound, and what it computes,
-//! is for the definitions to say.
+//! A grid with a form, or nothing, on each tile, and the limits of a search for which none are given. It
+//! promises no more than that: whether a grid is sound, and what it computes, is for the definitions
+//! to say. Its ratio and its tiles are bx_grid's.
 ghost use Rattle.std.specs.Prelude.{◌≡◌, ◌<◌, ◌≤◌, vec_len, slice_index_or};
-ghost use Rattle.bx_engine.specs.Tiles.{tile_count};
+ghost use Rattle.bx_grid.specs.Tiles.{tile_count};
 
-use crate::forms::Form;
+use bx_forms::Form;
+use bx_grid::{Limits, Ratio};
 use std::marker::Model;
-
-/// The sides of a grid: so many tiles in a row, and so many rows. Both are at least 1.
-#[derive(Clone, Copy, Debug, PartialEq, Eq)]
-pub struct Ratio {
-    /// Tiles in a row.
-    pub w: u32,
-    /// Rows.
-    pub h: u32,
-}
-
-/// The largest ratios that are tried. Each limit is from 1 to 144.
-#[derive(Clone, Copy, Debug, PartialEq, Eq)]
-pub struct Limits {
-    /// Tiles in all.
-    pub area: u32,
-    /// Tiles in a row.
-    pub width: u32,
-    /// Rows.
-    pub height: u32,
-}
 
 /// The limits of a search for which none are given.
 pub const DEFAULT_LIMITS: Limits = Limits {
@@ -45,7 +25,7 @@ pub struct FormGrid {
 
 impl Model for FormGrid {
     ghost use Rattle.std.specs.Prelude.{◌≡◌, ◌≤◌, vec_len};
-    ghost use Rattle.bx_engine.specs.Tiles.{tile_count};
+    ghost use Rattle.bx_grid.specs.Tiles.{tile_count};
     ghost use Rattle.bx_engine.specs.Grids.{FormGrid as Grid};
 
     ghost Value = { Grid };

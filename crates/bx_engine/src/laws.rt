@@ -2,8 +2,6 @@
 //! reader can trust what the contracts say.
 pub mod answers;
 pub mod chains;
-pub mod forms;
 pub mod grids;
 pub mod networks;
-pub mod orders;
 pub mod reports;

@@ -5,7 +5,6 @@ mod chain;
 pub mod column;
 mod design;
 mod engine;
-pub mod forms;
 pub mod grid;
 pub mod laws;
 mod refusal;

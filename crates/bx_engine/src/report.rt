@@ -11,10 +11,10 @@ ghost use Rattle.bx_engine.specs.Columns.{column};
 ghost use Rattle.bx_engine.specs.Texts.{spaced, tile_name};
 ghost use Rattle.bx_engine.specs.Reports.{head_text, ports_text, rows_text, report_of};
 
-use crate::forms::Form;
 use crate::grid::FormGrid;
 use crate::say::{Word, put_line, put_spaced, put_word};
 use bx_desk::{Desk, Failed, Piece};
+use bx_forms::Form;
 use bx_logic::Net;
 
 /// Puts out the report of a net that is a chain of so many inversions and is laid out in this column.

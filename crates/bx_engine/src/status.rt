@@ -2,7 +2,7 @@
 //! each comes is said by the clauses of `run`; what is said beside it is the texts' concern.
 ghost use Rattle.std.specs.Prelude.{◌≡◌};
 
-use crate::grid::Ratio;
+use bx_grid::Ratio;
 use bx_lex::LexFault;
 use bx_verilog::{NetFault, ReadFault};
 

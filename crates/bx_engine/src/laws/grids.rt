@@ -1,6 +1,6 @@
-//! Laws about forms, grids and columns: what the table says of each form, that a grid has one
-//! valuation, that the column of a chain is sound and computes its module, and near misses that the
-//! definitions refuse. Nothing here runs.
+//! Laws about form grids and columns: that a sound grid loses nothing, that a grid has one valuation,
+//! that the column of a chain is sound and computes its module, and near misses that the definitions
+//! refuse. What a form is, and where tiles stand, are laws of the crates below. Nothing here runs.
 ghost use Rattle.std.specs.Prelude.{◌≡◌, ◌≢◌, ◌==◌, ◌<◌, ◌↔◌, ℕ, ◌+◌, ◌%◌, Bool, true, false, if◌then◌else◌, List, [], ◌∷◌, ◌++◌, replicate, codes, Contains, Some, slice_get};
 ghost use Rattle.bx_logic.specs.Lists.{AreDistinct};
 ghost use Rattle.bx_logic.specs.Nets.{Netlist};
@@ -11,26 +11,11 @@ ghost use Rattle.bx_verilog.specs.Faults.{IsAccepted};
 ghost use Rattle.bx_verilog.specs.Equations.{module_of};
 ghost use Rattle.bx_verilog.specs.Elaboration.{net_of};
 ghost use Rattle.bx_engine.specs.Chains.{IsChain};
-ghost use Rattle.bx_engine.specs.declared.grid.Ratio.{Ratio};
-ghost use Rattle.bx_engine.specs.declared.forms.Side.{Side};
-ghost use Rattle.bx_engine.specs.Forms.{form_name, opposite};
-ghost use Rattle.bx_engine.specs.Tiles.{tile_count, y_of, zone_of, below, above};
-ghost use Rattle.bx_engine.specs.FormTable.{IsFormTable};
+ghost use Rattle.bx_forms.specs.Forms.{form_name};
+ghost use Rattle.bx_grid.specs.Tiles.{tile_count};
 ghost use Rattle.bx_engine.specs.Grids.{FormGrid, IsFormGrid, IsSound, LosesNothing, reads, IsBorderValuation, IsOnlyBorderValuation, Pins, pin_names, IsUsed, ArePins, Computes};
 ghost use Rattle.bx_engine.specs.Columns.{column, column_pins, input_r, output_l, output_r, not_ll, not_rr};
 ghost use Rattle.bx_engine.specs.Examples.{conjoined, conjoined_with, conjoined_borders, conjoined_pins, conjunction_of, double, cross, two_lines, AreRead, wired, averted, cut_short, lowered, negation, three_row_pins, exchanged_pins};
-
-/// The tile below on a side and the tile above on the opposite side undo each other.
-pub fn the_tiles_above_and_below_agree()
-    ensures below { (r : Ratio) (t u : ℕ) (side : Side) → below r t side ≡ Some u → above r u (opposite side) ≡ Some t }
-    ensures above { (r : Ratio) (t u : ℕ) (side : Side) → t < tile_count r → above r t side ≡ Some u → below r u (opposite side) ≡ Some t }
-{}
-
-/// What goes out of a tile goes to the next row, and so to the next of the four clock zones.
-pub fn a_border_leads_to_the_next_row()
-    ensures row { (r : Ratio) (t u : ℕ) (side : Side) → below r t side ≡ Some u → y_of r u ≡ y_of r t + 1 }
-    ensures zone { (r : Ratio) (t u : ℕ) (side : Side) → below r t side ≡ Some u → zone_of r u ≡ (zone_of r t + 1) % 4 }
-{}
 
 /// What goes out of a tile of a sound grid comes in at the tile below.
 pub fn a_sound_grid_loses_nothing()
@@ -66,11 +51,6 @@ pub fn pins_are_named_as_the_used_inputs()
 /// The column of a chain computes the module that the chain is the net of.
 pub fn a_column_computes_its_chain()
     ensures { (m : ModuleTree) (k : ℕ) → IsTree m → IsAccepted m → IsChain (net_of m) k → Computes (column k) (column_pins (net_of m) k) (module_of m) }
-{}
-
-/// The table of forms is the one that is described family by family.
-pub fn the_forms_are_as_described()
-    ensures { IsFormTable }
 {}
 
 /// The forms of a column are those with these names.

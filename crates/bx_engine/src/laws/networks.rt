@@ -2,15 +2,15 @@
 //! that does nothing; how a network is found from a module is left to others.
 
 ghost use Rattle.std.specs.Prelude.{◌≡◌, ◌≢◌, ℕ, ◌+◌, ◌<◌, ◌≤◌, ◌↔◌, min, Bool, false, not, ◌&&◌, ◌||◌, IsTrue, List, [], ◌∷◌, length};
-ghost use Rattle.bx_engine.specs.declared.grid.Ratio.{Ratio};
-ghost use Rattle.bx_engine.specs.declared.grid.Limits.{Limits};
-ghost use Rattle.bx_engine.specs.declared.forms.Kind.TheVariants.{Input, Output, Not, Fan, And, Or, Nand, Nor, Xor, Xnor};
+ghost use Rattle.bx_grid.specs.declared.ratio.Ratio.{Ratio};
+ghost use Rattle.bx_grid.specs.declared.ratio.Limits.{Limits};
+ghost use Rattle.bx_forms.specs.declared.kind.Kind.TheVariants.{Input, Output, Not, Fan, And, Or, Nand, Nor, Xor, Xnor};
 ghost use Rattle.bx_engine.specs.Networks.{Network, Edge, IsNetwork, kind_value, IsValuation, IsDown, IsUp};
 ghost use Rattle.bx_verilog.specs.Equations.{Module};
 ghost use Rattle.bx_engine.specs.Meanings.{NetworkComputes};
 ghost use Rattle.bx_engine.specs.BranchingNetworks.{branching_network};
 ghost use Rattle.bx_engine.specs.ChainNetworks.{chain_network, link, input_node, not_node, output_node, inverted};
-ghost use Rattle.bx_engine.specs.Orders.{IsWithin};
+ghost use Rattle.bx_grid.specs.Orders.{IsWithin};
 ghost use Rattle.bx_engine.specs.Counts.{Late, EachEarlierIsLate};
 
 use crate::grid::DEFAULT_LIMITS;

@@ -3,7 +3,7 @@ use Rattle.std.specs.Prelude.{codes, decimal}
 use Rattle.std.specs.List.{range_with_len, flat_map}
 use Rattle.std.proofs.lemmas.List.{take_all}
 use Rattle.std.proofs.lemmas.List.FromFn.{length-range_with_len, get_or-range_with_len}
-use Rattle.bx_engine.specs.declared.grid.Ratio.{Ratio}
+use Rattle.bx_grid.specs.declared.ratio.Ratio.{Ratio}
 use Rattle.bx_engine.specs.Grids.{FormGrid}
 use Rattle.bx_engine.specs.Rows.{row_tiles}
 use Rattle.bx_engine.specs.Texts.{spaced, tile_name, row_line}

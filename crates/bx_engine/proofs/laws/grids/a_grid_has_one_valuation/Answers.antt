@@ -1,4 +1,4 @@
-use Rattle.bx_engine.specs.Tiles.{tile_count}
+use Rattle.bx_grid.specs.Tiles.{tile_count}
 use Rattle.bx_engine.proofs.Valuations.{made, only-valuation}
 use Rattle.bx_engine.proofs.laws.grids.a_grid_has_one_valuation.Goals as goal
 

@@ -1,6 +1,6 @@
 use Rattle.std.proofs.Common.{◌≡◌, ℕ, zero, suc, [], ◌∷◌, refl, arith}
 use Rattle.std.specs.Prelude.{Some, slice_get}
-use Rattle.bx_engine.specs.declared.forms.Kind.TheVariants.{Output}
+use Rattle.bx_forms.specs.declared.kind.Kind.TheVariants.{Output}
 use Rattle.bx_engine.specs.Networks.{Node}
 use Rattle.bx_engine.specs.ChainNetworks.{input_node}
 use Rattle.bx_engine.proofs.laws.networks.each_output_has_its_one_node.Goals as goal

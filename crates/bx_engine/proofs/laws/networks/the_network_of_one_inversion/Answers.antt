@@ -1,6 +1,6 @@
 -- Each case fails one clause at the node 1 or at the edges 0 and 1.
 use Rattle.std.proofs.Common.{◌≡◌, ℕ, inl, inr, refl, arith}
-use Rattle.bx_engine.specs.declared.forms.Kind.TheVariants.{Not}
+use Rattle.bx_forms.specs.declared.kind.Kind.TheVariants.{Not}
 use Rattle.bx_engine.specs.ChainNetworks.{not_node, link}
 use Rattle.bx_engine.proofs.laws.networks.the_network_of_one_inversion.Goals as goal
 

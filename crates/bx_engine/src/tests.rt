@@ -242,6 +242,7 @@ fn more_than_94_not_are_not_built(rt: HostRuntime) -> Result<(), Fail> {
 }
 
 // A gate that counts how often it is entered and left.
+#[derive(Drop)]
 struct Counter {
     entered: AtomicU64,
     left: AtomicU64,

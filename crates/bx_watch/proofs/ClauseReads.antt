@@ -1,5 +1,7 @@
 -- What is read of a clause, literal by literal.
-use Rattle.std.proofs.Common.{◌≡◌, ◌≢◌, ℕ, zero, suc, ◌<◌, ◌≤◌, Bool, List, [], ◌∷◌, ◌++◌, length, get_or, take, drop, length-take, ◌+◌, refl, sym, ◌∙◌, ap, subst, inl, inr, ◌⊎◌, append_assoc, arith}
+use Rattle.std.proofs.lemmas.Bool.{cases_eq}
+use Rattle.std.proofs.lemmas.Option.{get_or_from_slice_get, slice_get-get_or}
+use Rattle.std.proofs.Common.{Some, None, slice_get, ◌≡◌, ◌≢◌, ℕ, zero, suc, ◌<◌, ◌≤◌, Bool, List, [], ◌∷◌, ◌++◌, length, get_or, take, drop, length-take, ◌+◌, refl, sym, ◌∙◌, ap, subst, inl, inr, ◌⊎◌, append_assoc, arith}
 use Rattle.std.specs.Prelude.{All, AllPairs, Contains}
 use Rattle.std.proofs.lemmas.List.Elements.{All-contains, All-from_get_or, All-get_or, All-push, All-append, Contains-push, Contains-append_cases, Contains-append_left, Contains-append_right}
 use Rattle.std.proofs.lemmas.List.{take_more, take-append-drop, get_or-take}
@@ -13,17 +15,47 @@ use Rattle.bx_watch.specs.Watching.{IsOver, AreApart}
 use Rattle.bx_watch.specs.Readings.{IsBlocked, IsRead}
 use Rattle.bx_watch.proofs.Trails.{never_both}
 
+none_some : (m : Literal) → None ≡ Some m → ⊥
+none_some m e = cc
+
+some-same : (a b : Literal) → Some a ≡ Some b → a ≡ b
+some-same a b e = cc
+
+-- what stands at a place is one of the list
+pub contains-at : (c : List Literal) (k : ℕ) (m : Literal) → slice_get c k ≡ Some m → Contains c m
+contains-at c k m e = (k, within c k m e, get_or_from_slice_get c k m m e) where
+  within : (ls : List Literal) (n : ℕ) (l : Literal) → slice_get ls n ≡ Some l → n < length ls
+  within [] n l h = absurd (none_some l h)
+  within (x ∷ xs) zero l h = omega arith
+  within (x ∷ xs) (suc n) l h = omega (arith, within xs n l h)
+
+-- what stands at a place of a list that one item was put behind
+get-front : (c : List Literal) (k : ℕ) (m x : Literal) → slice_get c k ≡ Some m → slice_get (c ++ x ∷ []) k ≡ Some m
+get-front [] k m x e = absurd (none_some m e)
+get-front (d ∷ ds) zero m x e = e
+get-front (d ∷ ds) (suc k) m x e = get-front ds k m x e
+
+get-last : (c : List Literal) (x : Literal) → slice_get (c ++ x ∷ []) (length c) ≡ Some x
+get-last [] x = refl
+get-last (d ∷ ds) x = get-last ds x
+
+get-push : (c : List Literal) (x : Literal) (k : ℕ) (m : Literal) → slice_get (c ++ x ∷ []) k ≡ Some m → (slice_get c k ≡ Some m) ⊎ ((k ≡ length c) × (x ≡ m))
+get-push [] x zero m e = inr (refl, some-same x m e)
+get-push [] x (suc k) m e = absurd (none_some m e)
+get-push (d ∷ ds) x zero m e = inl e
+get-push (d ∷ ds) x (suc k) m e = elim (get-push ds x k m e) [
+  | inl front ↦ inl front
+  | inr last ↦ inr (omega (arith, last.0), last.1)
+]
+
 -- of a clause that leaves one literal each other one is false
 pub left_or_false : (trail clause : List Literal) (l m : Literal) → LeavesOne trail clause l → Contains clause m → (l ≡ m) ⊎ IsFalse trail m
-left_or_false trail clause l m leaves has =
-    elim (Contains-append_cases leaves.before (l ∷ leaves.after) m (subst (λ (c : List Literal). Contains c m) leaves.split has)) [
-      | inl before ↦ inr (All-contains (IsFalse trail) (leaves.before ++ leaves.after) m leaves.others (Contains-append_left leaves.before leaves.after m before))
-      | inr behind ↦ first_or_later behind.0 behind.1 behind.2
-    ] where
-      first_or_later : (k : ℕ) → k < length (l ∷ leaves.after) → get_or (l ∷ leaves.after) k m ≡ m → (l ≡ m) ⊎ IsFalse trail m
-      first_or_later zero within is = inl is
-      first_or_later (suc k) within is =
-          inr (All-contains (IsFalse trail) (leaves.before ++ leaves.after) m leaves.others (Contains-append_right leaves.before leaves.after m (k, omega (arith, within), is)))
+left_or_false trail clause l m leaves (k, below, is) =
+    let at : slice_get clause k ≡ Some m = slice_get-get_or clause k m below ∙ ap (λ (x : Literal). Some x) is in
+    elim (cases_eq k leaves.place) [
+      | inl same ↦ inl (some-same l m (sym leaves.stands ∙ (ap (slice_get clause) (sym same) ∙ at)))
+      | inr other ↦ inr (leaves.others k m at other)
+    ]
 
 pub blocked-inactive : (trail clause : List Literal) → AreApart trail → IsBlocked trail clause → IsActive trail clause → ⊥
 blocked-inactive trail clause apart (inl (l, has, holds)) (inl fails) = never_both trail l apart holds (All-contains (IsFalse trail) clause l fails has)
@@ -55,11 +87,13 @@ pub read-false : (trail clause : List Literal) (l : Literal) (reading : Reading)
 read-false trail clause l False is fails = All-push (IsFalse trail) clause l is fails
 read-false trail clause l (Unit u) is fails = (
   record {
-    before = is.0.before;
-    after = is.0.after ++ l ∷ [];
-    split = ap (λ (c : List Literal). c ++ l ∷ []) is.0.split ∙ append_assoc is.0.before (u ∷ is.0.after) (l ∷ []);
-    others = subst (All (IsFalse trail)) (append_assoc is.0.before is.0.after (l ∷ [])) (All-push (IsFalse trail) (is.0.before ++ is.0.after) l is.0.others fails);
+    place = is.0.place;
+    stands = get-front clause is.0.place u l is.0.stands;
     this = is.0.this;
+    others = λ k m at other. elim (get-push clause l k m at) [
+      | inl front ↦ is.0.others k m front other
+      | inr last ↦ subst (IsFalse trail) last.1 fails
+    ];
   },
   is.1,
 )
@@ -69,11 +103,13 @@ read-false trail clause l Other is fails = blocked-more trail clause (l ∷ []) 
 pub read-first : (trail clause : List Literal) (l : Literal) → IsClauseFalse trail clause → IsFree trail l → IsUnit trail (clause ++ l ∷ []) l
 read-first trail clause l fails free = (
   record {
-    before = clause;
-    after = [];
-    split = refl;
-    others = All-append (IsFalse trail) clause [] fails (λ k d below. absurd (omega (arith, below)));
+    place = length clause;
+    stands = get-last clause l;
     this = free.1;
+    others = λ k m at other. elim (get-push clause l k m at) [
+      | inl front ↦ All-contains (IsFalse trail) clause m fails (contains-at clause k m front)
+      | inr last ↦ absurd (other last.0)
+    ];
   },
   free,
 )
@@ -81,7 +117,7 @@ read-first trail clause l fails free = (
 -- one more that isn't false, behind another one
 pub read-second : (trail clause : List Literal) (u l : Literal) → IsUnit trail clause u → IsFree trail l → All (λ m. m.var < l.var) clause → IsBlocked trail (clause ++ l ∷ [])
 read-second trail clause u l is free below =
-    let has : Contains clause u = subst (λ (c : List Literal). Contains c u) (sym is.0.split) (Contains-append_right is.0.before (u ∷ is.0.after) u (0, omega arith, refl)) in
+    let has : Contains clause u = contains-at clause is.0.place u is.0.stands in
     let smaller : u.var < l.var = All-contains (λ m. m.var < l.var) clause u below has in
     inr (u, l, Contains-append_left clause (l ∷ []) u has, Contains-push clause l, (λ e. omega (arith, smaller, ap (λ (x : Literal). x.var) e)), is.0.this, free.1)
 

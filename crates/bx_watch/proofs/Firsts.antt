@@ -10,7 +10,7 @@ use Rattle.bx_cnf.specs.Assignments.{IsFalse, IsClauseFalse, LeavesOne, IsUnit, 
 use Rattle.bx_watch.specs.declared.active.Active.{Active}
 use Rattle.bx_watch.specs.declared.active.Active.TheVariants.{Unit, False}
 use Rattle.bx_watch.specs.Watching.{Watch, IsWatch, NoneActive, IsFirst, IsLeastActive}
-use Rattle.bx_watch.proofs.ClauseReads.{left_or_false}
+use Rattle.bx_watch.proofs.ClauseReads.{left_or_false, contains-at}
 
 -- a clause that stands before another is one of those before it
 stands-before : (clauses : List (List Literal)) (i j : ℕ) (clause : List Literal) → i < j → slice_get clauses i ≡ Some clause → Contains (take j clauses) clause
@@ -55,7 +55,7 @@ false-active w clause fails = inl fails
 
 -- a clause that leaves a literal has it
 leaves-contains : (trail clause : List Literal) (l : Literal) → LeavesOne trail clause l → Contains clause l
-leaves-contains trail clause l leaves = subst (λ (c : List Literal). Contains c l) (sym leaves.split) (Contains-append_right leaves.before (l ∷ leaves.after) l (0, omega arith, refl))
+leaves-contains trail clause l leaves = contains-at clause leaves.place l leaves.stands
 
 one_literal : (trail clause : List Literal) (l m : Literal) → LeavesOne trail clause l → LeavesOne trail clause m → l ≡ m
 one_literal trail clause l m one other = elim (left_or_false trail clause l m one (leaves-contains trail clause m other)) [

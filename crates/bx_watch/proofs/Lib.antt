@@ -1,3 +1,0 @@
-pub mod Trails
-pub mod ClauseReads
-pub mod Firsts

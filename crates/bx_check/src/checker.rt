@@ -24,7 +24,7 @@ pub fn check(alloc: Global, clauses: &Clauses, steps: &Steps) -> Result<bool, No
     is_accepted(alloc, clauses, steps)
 }
 
-/// Whether a log is accepted for a formula.
+// Whether a log is accepted for a formula.
 fn is_accepted(alloc: Global, clauses: &Clauses, steps: &Steps) -> Result<bool, NoMemory>
     ensures { IfOk result (λ yes. IsTrue yes ↔ IsAccepted clauses.now steps.now) }
 {
@@ -35,7 +35,7 @@ fn is_accepted(alloc: Global, clauses: &Clauses, steps: &Steps) -> Result<bool, 
     each_follows(alloc, clauses, steps)
 }
 
-/// Whether the steps are over variables 1 to `vars`, and the last, and no other, has no literals.
+// Whether the steps are over variables 1 to `vars`, and the last, and no other, has no literals.
 fn are_shaped(vars: u32, steps: &Steps) -> bool
     ensures { IsTrue result ↔ AreShaped vars steps.now.steps }
 {
@@ -47,7 +47,7 @@ fn are_shaped(vars: u32, steps: &Steps) -> bool
     true
 }
 
-/// Whether literals are over variables 1 to `vars`, and there is none exactly in the last step.
+// Whether literals are over variables 1 to `vars`, and there is none exactly in the last step.
 fn is_shaped(literals: &[Lit], is_last: bool, vars: u32) -> bool
     ensures within { IsTrue result → All (λ l. l.var ≤ vars) literals.now }
     ensures ended { IsTrue result → (literals.now ≡ []) ↔ IsTrue is_last }
@@ -59,7 +59,7 @@ fn is_shaped(literals: &[Lit], is_last: bool, vars: u32) -> bool
     literals.iter().all(|lit| lit.var() <= vars)
 }
 
-/// Whether each step follows from the clauses and the steps before it.
+// Whether each step follows from the clauses and the steps before it.
 fn each_follows(alloc: Global, clauses: &Clauses, steps: &Steps) -> Result<bool, NoMemory>
     requires numbered { steps.now.first ≡ length clauses.now.clauses + 1 }
     requires within { All (λ step. All (λ l. l.var ≤ clauses.now.vars) step.literals) steps.now.steps }
@@ -74,7 +74,7 @@ fn each_follows(alloc: Global, clauses: &Clauses, steps: &Steps) -> Result<bool,
     Ok(true)
 }
 
-/// Whether step k follows from the clauses and the steps before it. No literal is taken before or after.
+// Whether step k follows from the clauses and the steps before it. No literal is taken before or after.
 fn follows(
     clauses: &Clauses,
     steps: &Steps,
@@ -95,7 +95,7 @@ fn follows(
     Ok(leads)
 }
 
-/// Takes the negations of literals that ascend by variable.
+// Takes the negations of literals that ascend by variable.
 fn take_negations(literals: &[Lit], assignment: &mut Assignment) -> Result<(), NoMemory>
     requires ascending { AscendAbove 0 literals.now }
     requires within { All (λ l. l.var ≤ assignment.old.vars) literals.now }
@@ -108,7 +108,7 @@ fn take_negations(literals: &[Lit], assignment: &mut Assignment) -> Result<(), N
     Ok(())
 }
 
-/// Whether hints lead from what is taken to a false clause.
+// Whether hints lead from what is taken to a false clause.
 fn lead_to_false(
     clauses: &Clauses,
     steps: &Steps,
@@ -132,7 +132,7 @@ fn lead_to_false(
     Ok(false)
 }
 
-/// The clause of an id: one of the formula, or that of a step.
+// The clause of an id: one of the formula, or that of a step.
 fn clause_of<'a>(clauses: &'a Clauses, steps: &'a Steps, id: u32) -> &'a [Lit]
     requires numbered { steps.now.first ≡ length clauses.now.clauses + 1 }
     requires within { All (λ step. All (λ l. l.var ≤ clauses.now.vars) step.literals) steps.now.steps }

@@ -117,7 +117,7 @@ pub fn all_true(clauses: &Clauses, bits: &[bool]) -> bool
     true
 }
 
-/// Whether one of the literals is true.
+// Whether one of the literals is true.
 fn is_clause_true(literals: &[Lit], bits: &[bool]) -> bool
     requires { All (λ l. l.var ≤ length bits.now) literals.now }
     ensures { IsTrue result ↔ IsClauseTrue bits.now literals.now }

@@ -26,7 +26,7 @@ impl<T> Model for Flat<T> {
     ghost invariant = { λ flat. IsFlat flat.ends.items (length flat.items.items) };
 }
 
-/// Where list k begins: at the end of the one before, and the first at 0.
+// Where list k begins: at the end of the one before, and the first at 0.
 fn start_of(ends: &[u32], k: usize) -> u32
     requires { k ≤ length ends.now }
     ensures { result ≡ slice_index (0 ∷ ends.now) k }

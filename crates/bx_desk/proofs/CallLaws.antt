@@ -2,12 +2,12 @@
 use Rattle.std.proofs.Common.{◌≡◌, ℕ, Bool, true, false, List, [], ◌∷◌, ◌++◌, Option, Some, None, inl, inr, sym, ◌∙◌, ap, refl, subst, append_assoc}
 use Rattle.std.proofs.lemmas.List.{append-nil}
 use Rattle.std.proofs.lemmas.Slice.Eq.{bytes_eq-Decides}
-use Rattle.std.specs.Option.{option_map, IfSome}
+use Rattle.std.specs.Option.{option_map}
 use Rattle.std.specs.Prelude.{if◌then◌else◌, ◌⊎◌}
 use Rattle.std.specs.Str.{bytes_eq}
 use std.Path.{fun_ext}
 use Rattle.bx_desk.specs.Desk.{Files, DeskState, IsFile, with_file, with_behind, with_written, Starts, FailsToLoad, Says, SaysFront}
-use Rattle.bx_desk.specs.Calls.{Call, load, append, failed_append, say, Leaves, LeaveAll, written}
+use Rattle.bx_desk.specs.Calls.{Call, load, append, failed_append, say, LeaveAll, written}
 
 -- the started file is this one, with these bytes, and the other files are as they were
 record Holds (files : Option Files) (name bytes : List ℕ) (desk : DeskState) : Type 0 where

@@ -1,5 +1,5 @@
 -- What is put into a piece, and what of it has been handed on to a desk.
-use Rattle.std.specs.Prelude.{◌≡◌, ℕ, List, ◌++◌, take, Option, Result, MatchResult}
+use Rattle.std.specs.Prelude.{◌≡◌, ℕ, List, ◌++◌, take, Result, MatchResult}
 use Rattle.bx_desk.specs.Desk.{DeskState, Puts, PutsFront}
 use Rattle.bx_desk.specs.declared.piece.Piece.{Piece}
 use Rattle.bx_desk.specs.declared.target.Target.{Target}

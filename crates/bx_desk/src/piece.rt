@@ -8,7 +8,7 @@ ghost use Rattle.bx_desk.specs.Desk.{DeskState, CanPut, Puts, PutsFront};
 use crate::target::Target;
 use crate::{Desk, Failed};
 
-/// How many bytes a piece holds before it hands them on.
+// How many bytes a piece holds before it hands them on.
 const CAPACITY: usize = 4096;
 
 /// A buffer of 4,096 bytes in front of a desk. After an error it is only to be dropped. One that was

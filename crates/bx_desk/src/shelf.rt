@@ -199,7 +199,7 @@ impl Space {
         }
     }
 
-    /// These bytes and no room.
+    // These bytes and no room.
     fn of(bytes: Vec<u8>) -> Self
         ensures bytes { result.bytes.items ≡ bytes.items }
         ensures room { result.room ≡ 0 }
@@ -231,7 +231,7 @@ impl Space {
         Ok(())
     }
 
-    /// Drops the bytes. The room stays.
+    // Drops the bytes. The room stays.
     fn clear(&mut self)
         ensures bytes { self.new.bytes.items ≡ [] }
         ensures room { self.new.room ≡ self.old.room }

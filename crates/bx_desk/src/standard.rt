@@ -11,7 +11,7 @@ use std::fs;
 use std::io::{self, Read, Write};
 use std::rt::Files;
 
-/// How many bytes one read asks for.
+// How many bytes one read asks for.
 const CHUNK: usize = 16384;
 
 /// Real files and standard output.

@@ -7,7 +7,7 @@ use Rattle.bx_forms.specs.Kinds.{operands, slots}
 use Rattle.bx_engine.specs.Networks.{Node, Edge, IsNetwork, IsBefore, IsValuation, HasKind, IsPath, IsDown, IsUp, leaving, entering, one_if}
 use Rattle.bx_engine.specs.BranchingNetworks.{node, edge, branching_network}
 use Rattle.bx_engine.specs.Counts.{Late}
-use Rattle.bx_grid.proofs.Ascending.{Ascends, AllPairs-from_ascends}
+use Rattle.bx_logic.proofs.Ordered.{Ascends, AllPairs-from_ascends}
 use Rattle.bx_engine.proofs.Networks.{path_rises, leaving_past, entering_past}
 
 abbrev nodes : List Node

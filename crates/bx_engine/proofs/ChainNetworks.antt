@@ -1,5 +1,6 @@
 -- Paths, longest paths and counts of edges in the network of a chain.
 use Rattle.std.proofs.Common.{◌≡◌, ℕ, zero, suc, ◌+◌, ◌-◌, ◌*◌, ◌<◌, ◌≤◌, ◌≢◌, ◌↔◌, ◌==◌, ◌&&◌, nat_lt, Bool, true, false, not, min, ◌⊎◌, filter, List, [], ◌∷◌, ◌++◌, map, replicate, length, slice_get, Some, inl, inr, refl, sym, ap, ◌∙◌, subst, arith, eq-eqb, ne_eqb, lit≤, le-ltb}
+use Rattle.std.proofs.lemmas.Bool.{and_from}
 use Rattle.std.specs.List.{range_with_len}
 use Rattle.bx_forms.specs.declared.kind.Kind.{Kind}
 use Rattle.bx_forms.specs.declared.kind.Kind.TheVariants.{Input, Output}
@@ -14,8 +15,8 @@ use Rattle.bx_engine.specs.Counts.{Late, EachEarlierIsLate}
 use Rattle.bx_engine.specs.ChainNetworks.{inverted, chain_network, link, input_node, not_node, output_node}
 use Rattle.bx_engine.proofs.Networks.{first_false, second_false}
 use Rattle.bx_grid.proofs.Orders.{earlier_is_before}
-use Rattle.bx_grid.proofs.Ascending.{Ascends, at_or_above, Member-range, Member-range_bounds, Ascends-map, Ascends-range, AllPairs-from_ascends}
-use Rattle.bx_grid.proofs.Members.{Member, Contains-from_member, Member-from_contains, Member-map, Member-map_cases, AllByRecursion-from_member}
+use Rattle.bx_logic.proofs.Ordered.{Ascends, at_or_above, Member-range, Member-range_bounds, Ascends-map, Ascends-range, AllPairs-from_ascends}
+use Rattle.bx_logic.proofs.Members.{Member, Contains-from_member, Member-from_contains, Member-map, Member-map_cases, AllByRecursion-from_member}
 
 abbrev links : ℕ → List Edge
 links n = map link (range_with_len 0 n)
@@ -202,12 +203,9 @@ filter_one q a (suc n) v low high here other =
       | inr l ↦ rw (other a (omega arith)) (filter_one q (a + 1) n v l (omega arith) here other)
     ]
 
-both_true : (p q : Bool) → p ≡ true → q ≡ true → (p && q) ≡ true
-both_true p q e f = rw (e, f) refl
-
 leaving_first : (n v : ℕ) → v < n → leaving (links n) v 0 ≡ link v ∷ []
 leaving_first n v h =
-    let here = both_true (v == v) (0 == 0) (eq-eqb v v refl) refl in
+    let here = and_from (v == v) (0 == 0) (eq-eqb v v refl) refl in
     filter_one (λ e. (e.source == v) && (e.slot == 0)) 0 n v (omega arith) (omega arith) here (λ w d. first_false _ _ (ne_eqb w v d))
 
 leaving_later : (n v slot : ℕ) → leaving (links n) v (suc slot) ≡ []
@@ -220,7 +218,7 @@ leaving_none n v slot h =
 
 entering_first : (n v : ℕ) → v < n → entering (links n) (suc v) 0 ≡ link v ∷ []
 entering_first n v h =
-    let here = both_true ((v + 1) == suc v) (0 == 0) (eq-eqb (v + 1) (suc v) (omega arith)) refl in
+    let here = and_from ((v + 1) == suc v) (0 == 0) (eq-eqb (v + 1) (suc v) (omega arith)) refl in
     let other : (w : ℕ) → w ≢ v → ((w + 1) == suc v) ≡ false = λ w d. ne_eqb (w + 1) (suc v) (λ e. d (omega arith)) in
     filter_one (λ e. (e.target == suc v) && (e.operand == 0)) 0 n v (omega arith) (omega arith) here (λ w d. first_false _ _ (other w d))
 

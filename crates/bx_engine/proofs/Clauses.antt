@@ -1,5 +1,5 @@
 -- What each clause of a run says, from how the run ended.
-use Rattle.std.proofs.Common.{◌≡◌, ℕ, ◌≤◌, arith, List, Option, Some, None, sym, ◌∙◌, ap, subst, refl}
+use Rattle.std.proofs.Common.{◌≡◌, ℕ, arith, List, Option, Some, None, sym, ◌∙◌, ap, subst, refl}
 use Rattle.std.specs.Prelude.{String, IsSome}
 use Rattle.bx_desk.specs.Desk.{Counts, DeskState, Rose, FailsToLoad, Says, SaysFront}
 use Rattle.bx_syntax.specs.Parts.{ModuleTree}
@@ -9,7 +9,7 @@ use Rattle.bx_verilog.specs.Elaboration.{net_of}
 use Rattle.bx_grid.specs.declared.ratio.Ratio.{Ratio}
 use Rattle.bx_engine.specs.declared.status.InputFault.{InputFault}
 use Rattle.bx_engine.specs.declared.status.Status.{Status}
-use Rattle.bx_engine.specs.declared.status.Status.TheVariants.{Found, Refused, ReadFault, WriteFault, NoMemory, Words}
+use Rattle.bx_engine.specs.declared.status.Status.TheVariants.{Found, Refused, ReadFault, WriteFault, NoMemory}
 use Rattle.bx_engine.specs.declared.status.Which.{Which}
 use Rattle.bx_engine.specs.declared.status.Which.TheVariants.{NetFile, Output}
 use Rattle.bx_engine.specs.Statuses.{IsSettled}

@@ -11,7 +11,7 @@ use Rattle.bx_forms.specs.declared.kind.Kind.TheVariants.{Input, Output, Not}
 use Rattle.bx_forms.specs.declared.side.Side.{Side}
 use Rattle.bx_forms.specs.declared.side.Side.TheVariants.{Left, Right}
 use Rattle.bx_forms.specs.declared.table.Shape.{Shape}
-use Rattle.bx_forms.specs.Forms.{IsForm, shape_of, shape_node, shape_upper, shape_lower}
+use Rattle.bx_forms.specs.Forms.{shape_of, shape_node, shape_upper, shape_lower}
 use Rattle.bx_forms.specs.Sides.{opposite, is_used}
 use Rattle.bx_grid.specs.Tiles.{x_of, y_of, is_odd, one_less, column_beside, tile_at, above, below, border, entering}
 use Rattle.bx_engine.specs.Grids.{FormGrid, shape_in, shape_at, takes, sends, sends_from, Holds, IsFormGrid, IsSound, value_of, reads, shape_value, sent, IsBorderValuation}

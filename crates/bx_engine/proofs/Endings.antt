@@ -1,7 +1,7 @@
 -- A text that was put out to be said, and what the end of a run says then.
-use Rattle.std.proofs.Common.{◌≡◌, ℕ, List, [], ◌++◌, Result, Ok, Err, sym, ◌∙◌, ap, subst, refl}
+use Rattle.std.proofs.Common.{◌≡◌, ℕ, List, [], ◌++◌, Result, Ok, Err, sym, ◌∙◌, subst, refl}
 use Rattle.std.proofs.lemmas.List.{append-nil}
-use Rattle.bx_desk.specs.Desk.{DeskState, Says, SaysFront, PutsFront}
+use Rattle.bx_desk.specs.Desk.{DeskState, Says, PutsFront}
 use Rattle.bx_desk.specs.Pieces.{pending, target_of, PutsUpTo, HandsOn}
 use Rattle.bx_desk.specs.declared.desk.Failed.{Failed}
 use Rattle.bx_desk.specs.declared.piece.Piece.{Piece}

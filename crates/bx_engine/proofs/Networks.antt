@@ -2,7 +2,7 @@
 use Rattle.std.proofs.Common.{◌≡◌, ℕ, zero, suc, ◌+◌, ◌<◌, ◌≤◌, ◌==◌, ◌&&◌, Bool, true, false, List, [], ◌∷◌, refl, ap, arith, ne_eqb}
 use Rattle.std.specs.List.{AllByRecursion}
 use Rattle.bx_engine.specs.Networks.{Edge, Network, IsPath, IsDown, IsUp, leaving, entering}
-use Rattle.bx_verilog.proofs.Membership.{Member-from_contains, member_of_AllByRecursion}
+use Rattle.bx_logic.proofs.Members.{Member-from_contains, member_of_AllByRecursion}
 
 pub down_is_one : (N : Network) (v d e : ℕ) → IsDown N v d → IsDown N v e → d ≡ e
 down_is_one N v d e a b =

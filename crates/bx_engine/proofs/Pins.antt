@@ -6,7 +6,7 @@ use Rattle.bx_logic.specs.Lists.{AreDistinct}
 use Rattle.bx_logic.specs.Nets.{Netlist}
 use Rattle.bx_verilog.specs.Formulas.{Text}
 use Rattle.bx_engine.specs.Grids.{FormGrid, Pins, pin_names, IsUsed, AreUsed, ArePins}
-use Rattle.bx_verilog.proofs.Membership.{Member, Contains-from_member, Member-from_contains, AllByRecursion-from_member, member_of_AllByRecursion}
+use Rattle.bx_logic.proofs.Members.{Member, Contains-from_member, Member-from_contains, AllByRecursion-from_member, member_of_AllByRecursion}
 
 module _ (net : Netlist) where
   -- the name is that of one of these inputs, of which the first has number i, and which is used

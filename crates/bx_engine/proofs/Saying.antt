@@ -1,9 +1,9 @@
 -- Texts put out one after another through one piece.
-use Rattle.std.proofs.Common.{◌≡◌, ℕ, ◌+◌, ◌≤◌, ◌<◌, length, take, get_or, List, [], ◌++◌, Result, Ok, Err, sym, ◌∙◌, ap, subst, refl, arith, append_assoc}
+use Rattle.std.proofs.Common.{◌≡◌, ℕ, ◌+◌, ◌<◌, length, take, get_or, List, [], ◌++◌, Result, Ok, Err, sym, ◌∙◌, ap, subst, refl, append_assoc}
 use Rattle.std.proofs.lemmas.List.{append-nil}
 use Rattle.std.specs.Result.{IsErr}
 use Rattle.std.specs.List.{flat_map}
-use Rattle.bx_desk.specs.Desk.{DeskState, CanPut, Puts, PutsFront}
+use Rattle.bx_desk.specs.Desk.{DeskState, CanPut, PutsFront}
 use Rattle.bx_desk.specs.Pieces.{pending, target_of, PutsUpTo, HandsOn}
 use Rattle.bx_desk.specs.declared.desk.Failed.{Failed}
 use Rattle.bx_desk.specs.declared.piece.Piece.{Piece}

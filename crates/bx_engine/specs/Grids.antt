@@ -1,5 +1,5 @@
 -- Form grids: when one is sound, what the values of its borders are, and when it computes a module.
-use Rattle.std.specs.Prelude.{◌≡◌, ◌==◌, ℕ, ◌+◌, ◌*◌, ◌<◌, ◌≤◌, Bool, false, if◌then◌else◌, IsTrue, List, [], ◌∷◌, ◌++◌, map, length, slice_index_or, Option, Some, None, IsSome, ◌⊎◌, Contains}
+use Rattle.std.specs.Prelude.{◌≡◌, ◌==◌, ℕ, ◌+◌, ◌*◌, ◌≤◌, Bool, false, if◌then◌else◌, IsTrue, List, [], ◌∷◌, ◌++◌, map, length, slice_index_or, Option, Some, None, IsSome, ◌⊎◌, Contains}
 use Rattle.std.specs.List.{AllByRecursion}
 use Rattle.bx_logic.specs.Op.{first_value}
 use Rattle.bx_logic.specs.Lists.{AreDistinct}
@@ -17,7 +17,7 @@ use Rattle.bx_forms.specs.declared.table.Function.{Function}
 use Rattle.bx_forms.specs.declared.table.Function.TheVariants.{Given}
 use Rattle.bx_forms.specs.Forms.{IsForm, shape_of, shape_node, shape_upper, shape_lower, function_value}
 use Rattle.bx_forms.specs.Sides.{opposite, is_used}
-use Rattle.bx_grid.specs.Tiles.{tile_count, IsTile, IsInFirstRow, IsInLastRow, y_of, below, above, border, entering}
+use Rattle.bx_grid.specs.Tiles.{tile_count, IsTile, IsInFirstRow, IsInLastRow, below, above, border, entering}
 
 -- for each tile the number of its form, or none where it is empty
 pub record FormGrid : Type 0 where

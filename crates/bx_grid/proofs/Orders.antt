@@ -7,8 +7,8 @@ use Rattle.std.proofs.lemmas.Option.{get_or_from_slice_get, slice_get-get_or, sl
 use Rattle.bx_grid.specs.declared.ratio.Ratio.{Ratio}
 use Rattle.bx_grid.specs.declared.ratio.Limits.{Limits}
 use Rattle.bx_grid.specs.Orders.{IsWithin, Precedes, divides, divisors, of_width, fits, of_area, order, IsEarlier}
-use Rattle.bx_grid.proofs.Members.{Member, Member-filter, Member-filter_cases, Member-map, Member-map_cases, Member-flat_map, Member-flat_map_cases, Contains-from_member, Member-from_contains}
-use Rattle.bx_grid.proofs.Ascending.{Member-range, Member-range_bounds, Ascends, Ascends-filter, Ascends-map, Ascends-flat_map, Ascends-range, AllPairs-from_ascends}
+use Rattle.bx_logic.proofs.Members.{Member, Member-filter, Member-filter_cases, Member-map, Member-map_cases, Member-flat_map, Member-flat_map_cases, Contains-from_member, Member-from_contains}
+use Rattle.bx_logic.proofs.Ordered.{Member-range, Member-range_bounds, Ascends, Ascends-filter, Ascends-map, Ascends-flat_map, Ascends-range, AllPairs-from_ascends}
 
 -- ---- numbers and tests
 

@@ -10,7 +10,7 @@ use Rattle.bx_forms.specs.declared.kind.Kind.TheVariants.{Input, Output, Not, Fa
 use Rattle.bx_forms.specs.Forms.{form_node}
 use Rattle.bx_grid.specs.declared.ratio.Ratio.{Ratio}
 use Rattle.bx_grid.specs.Tiles.{IsTile}
-use Rattle.bx_grid.proofs.Members.{Member, Member-map, Member-map_cases, Contains-from_member, Member-from_contains}
+use Rattle.bx_logic.proofs.Members.{Member, Member-map, Member-map_cases, Contains-from_member, Member-from_contains}
 use Rattle.bx_network.specs.declared.node.Node.{Node}
 use Rattle.bx_network.specs.Networks.{Network, IsNetwork, HasPort, is_output}
 use Rattle.bx_network.specs.Values.{NetworkGives}

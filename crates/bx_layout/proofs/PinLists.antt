@@ -5,7 +5,7 @@ use Rattle.bx_logic.specs.Lists.{AreDistinct}
 use Rattle.bx_logic.specs.Values.{value_of}
 use Rattle.bx_forms.specs.declared.kind.Kind.{Kind}
 use Rattle.bx_network.specs.declared.node.Node.{Node}
-use Rattle.bx_grid.proofs.Members.{Member, Member-append_cases, Member-map_cases, AllByRecursion-from_member, member_of_AllByRecursion}
+use Rattle.bx_logic.proofs.Members.{Member, Member-append_cases, Member-map_cases, AllByRecursion-from_member, member_of_AllByRecursion}
 use Rattle.bx_layout.specs.Pins.{Pin, pins_at, given_at}
 
 abbrev pub pin_of : Node → ℕ → Pin

@@ -1,9 +1,9 @@
 -- Behaviours that are functions, and behaviours that are the same.
-use Rattle.std.proofs.Common.{◌≡◌, ℕ, Bool, List, length, refl, sym, ◌∙◌, ap, subst}
+use Rattle.std.proofs.Common.{◌≡◌, ℕ, Bool, List, length, sym, ◌∙◌, ap, subst}
 use Rattle.std.proofs.lemmas.List.{length-map}
 use Rattle.bx_logic.specs.Nets.{Netlist, IsNet, output_nets}
-use Rattle.bx_logic.specs.Values.{value_of, IsNetValuation, IsOnlyNetValuation, output_values, AreOutputValues}
-use Rattle.bx_logic.specs.Behaviours.{Behaviour, net_behaviour, SameBehaviour, GivesOnly, IsFunction}
+use Rattle.bx_logic.specs.Values.{value_of, IsNetValuation, output_values, AreOutputValues}
+use Rattle.bx_logic.specs.Behaviours.{Behaviour, net_behaviour, SameBehaviour, IsFunction}
 use Rattle.bx_logic.proofs.Valuations.{the_values, only_valuation, net-reads_within}
 
 pub same-refl : (one : Behaviour) → SameBehaviour one one

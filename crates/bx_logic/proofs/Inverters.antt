@@ -3,7 +3,7 @@ use Rattle.std.proofs.Common.{◌≡◌, ℕ, zero, suc, ◌<◌, Bool, true, fa
 use Rattle.std.specs.List.{All}
 use Rattle.std.proofs.lemmas.List.Elements.{All-cons, All-nil}
 use Rattle.bx_logic.specs.Nets.{driver_at, IsNet}
-use Rattle.bx_logic.specs.Values.{value_of, driver_value, IsNetValuation, output_values, AreOutputValues}
+use Rattle.bx_logic.specs.Values.{value_of, driver_value, output_values, AreOutputValues}
 use Rattle.bx_logic.specs.Ascending.{MayStandAt}
 use Rattle.bx_logic.specs.Behaviours.{net_behaviour, SameBehaviour}
 use Rattle.bx_logic.specs.Inverters.{wire, inverter, two_inverters}

@@ -8,3 +8,5 @@ pub mod Ascending
 pub mod Cycles
 pub mod ComponentSteps
 pub mod Operations
+pub mod Members
+pub mod Ordered

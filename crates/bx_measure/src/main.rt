@@ -11,10 +11,10 @@ use std::alloc::AllocError;
 use std::process::ExitCode;
 use std::{env, fs, io};
 
-/// The longest text whose tree is read, in bytes.
+// The longest text whose tree is read, in bytes.
 const LONGEST: usize = 1_048_576;
 
-/// What can be run.
+// What can be run.
 #[derive(Clone, Copy)]
 enum Stage {
     /// The tokens of the text.
@@ -36,14 +36,14 @@ impl Stage {
     }
 }
 
-/// Says how many tokens there are.
+// Says how many tokens there are.
 fn say_tokens(rt: &HostRuntime, tokens: &Tokens) -> io::Result<bool> {
     let count = tokens.len();
     println!(rt; "{count} tokens")?;
     Ok(true)
 }
 
-/// The module that these tokens spell. Where there is none, that is said.
+// The module that these tokens spell. Where there is none, that is said.
 fn module_of(rt: &HostRuntime, text: &[u8], tokens: &Tokens) -> io::Result<Option<Module>>
     requires { HasTokens text.now tokens.now }
 {
@@ -60,14 +60,14 @@ fn module_of(rt: &HostRuntime, text: &[u8], tokens: &Tokens) -> io::Result<Optio
     }
 }
 
-/// Says how many items a module has.
+// Says how many items a module has.
 fn say_tree(rt: &HostRuntime, module: &Module) -> io::Result<bool> {
     let count = module.items().len();
     println!(rt; "{count} items")?;
     Ok(true)
 }
 
-/// The values of the outputs where each input is 1.
+// The values of the outputs where each input is 1.
 fn values(rt: &HostRuntime, net: &Net) -> Result<Vec<bool>, AllocError> {
     let bits = vec![in rt.alloc(); true; net.input_count() as usize]?;
     let mut values = Vec::new(rt.alloc());
@@ -76,7 +76,7 @@ fn values(rt: &HostRuntime, net: &Net) -> Result<Vec<bool>, AllocError> {
     Ok(values)
 }
 
-/// Says how many nets a module has, and how many outputs have a value.
+// Says how many nets a module has, and how many outputs have a value.
 fn say_net(rt: &HostRuntime, module: &Module) -> io::Result<bool> {
     let net = match to_net(rt.alloc(), module) {
         Ok(net) => net,
@@ -91,7 +91,7 @@ fn say_net(rt: &HostRuntime, module: &Module) -> io::Result<bool> {
     Ok(true)
 }
 
-/// Runs the stage. Answers whether it ended without a fault.
+// Runs the stage. Answers whether it ended without a fault.
 fn run(rt: &HostRuntime, stage: Stage, text: &[u8]) -> io::Result<bool> {
     let tokens = match read_tokens(rt.alloc(), text) {
         Ok(tokens) => tokens,

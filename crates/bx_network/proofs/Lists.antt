@@ -1,5 +1,5 @@
 -- What is read of a list at a place, and lists of which one item passes a test.
-use Rattle.std.proofs.Common.{AllPairs, ◌≡◌, ℕ, zero, suc, ◌<◌, Bool, true, false, List, [], ◌∷◌, filter, length, get_or, replicate, Some, refl, sym, ap, ◌∙◌, subst, arith}
+use Rattle.std.proofs.Common.{◌≡◌, ℕ, zero, suc, ◌<◌, Bool, true, false, List, [], ◌∷◌, filter, length, get_or, replicate, Some, refl, sym, ap, ◌∙◌, subst, arith}
 use Rattle.std.specs.List.{slice_get, position_or_len, AllByRecursion}
 
 pub got-within : {X : Type 0} (xs : List X) (i : ℕ) (x : X) → slice_get xs i ≡ Some x → i < length xs
@@ -93,19 +93,3 @@ got-replicate (suc n) (suc v) = got-replicate n v
 pub length-got-replicate : (n : ℕ) → length (replicate {A = ℕ} n 0) ≡ n
 length-got-replicate zero = refl
 length-got-replicate (suc n) = ap suc (length-got-replicate n)
-
--- each item stands in this relation to those behind it, which can be shown item by item
-abbrev pub Ascends : {X : Type 0} → (X → X → Type 0) → List X → Type 0
-Ascends R [] = Unit {0}
-Ascends R (x ∷ xs) = AllByRecursion (R x) xs × Ascends R xs
-
-all-at : {X : Type 0} (P : X → Type 0) (xs : List X) (j : ℕ) (d : X) → AllByRecursion P xs → j < length xs → P (get_or xs j d)
-all-at P [] j d all h = absurd (omega arith)
-all-at P (x ∷ xs) zero d all h = all.0
-all-at P (x ∷ xs) (suc j) d all h = all-at P xs j d all.1 (omega arith)
-
-pub ascends-pairs : {X : Type 0} (R : X → X → Type 0) (xs : List X) → Ascends R xs → AllPairs R xs
-ascends-pairs R [] all i j d low within = absurd (omega arith)
-ascends-pairs R (x ∷ xs) all i zero d low within = absurd (omega arith)
-ascends-pairs R (x ∷ xs) all zero (suc j) d low within = all-at (R x) xs j d all.0 (omega arith)
-ascends-pairs R (x ∷ xs) all (suc i) (suc j) d low within = ascends-pairs R xs all.1 i j d (omega arith) (omega arith)

@@ -12,7 +12,7 @@ use Rattle.bx_network.specs.Values.{IsValuation}
 use Rattle.bx_network.specs.Paths.{IsDown, IsUp}
 use Rattle.bx_network.specs.Windows.{IsInWindow, MayStand}
 use Rattle.bx_network.specs.Examples.{node, inversion, branching}
-use Rattle.bx_network.proofs.Lists.{Ascends, ascends-pairs}
+use Rattle.bx_logic.proofs.Ordered.{Ascends, AllPairs-from_ascends}
 use Rattle.bx_network.proofs.Longest.{lengths}
 use Rattle.bx_network.proofs.Networks.{kind-once}
 use Rattle.bx_network.proofs.Downs.{downs-are, ups-are, down_is_one, up_is_one}
@@ -85,7 +85,7 @@ inversion_is_network = record {
       (leave inversion.edges (omega arith) 0 1 (omega arith) refl refl) (leave inversion.edges (omega arith) 1 1 (omega arith) refl refl) (leave inversion.edges (omega arith) 2 0 (omega arith) refl refl);
   enters = each_of_three (λ v kind. (operand : ℕ) → length (entering inversion.edges v operand) ≡ one_if (nat_lt operand (operands kind)))
       (enter inversion.edges (omega arith) 0 0 (omega arith) refl refl) (enter inversion.edges (omega arith) 1 1 (omega arith) refl refl) (enter inversion.edges (omega arith) 2 1 (omega arith) refl refl);
-  ascending = ascends-pairs IsBefore inversion.edges ((inl (omega arith), tt), (tt, tt));
+  ascending = AllPairs-from_ascends IsBefore inversion.edges ((inl (omega arith), tt), (tt, tt));
   inputs_apart = λ u v port a b. first u port a ∙ sym (first v port b);
   outputs_apart = λ u v port a b. last u port a ∙ sym (last v port b);
   outputs_within = λ v port a. let none = no_port_of_three v (record { kind = Output; port = port }) a in omega arith;
@@ -130,7 +130,7 @@ branching_is_network = record {
       (leave branching.edges (omega arith) 0 1 (omega arith) refl refl) (leave branching.edges (omega arith) 1 2 (omega arith) refl refl) (leave branching.edges (omega arith) 2 1 (omega arith) refl refl) (leave branching.edges (omega arith) 3 1 (omega arith) refl refl) (leave branching.edges (omega arith) 4 0 (omega arith) refl refl);
   enters = each_of_five (λ v kind. (operand : ℕ) → length (entering branching.edges v operand) ≡ one_if (nat_lt operand (operands kind)))
       (enter branching.edges (omega arith) 0 0 (omega arith) refl refl) (enter branching.edges (omega arith) 1 1 (omega arith) refl refl) (enter branching.edges (omega arith) 2 1 (omega arith) refl refl) (enter branching.edges (omega arith) 3 2 (omega arith) refl refl) (enter branching.edges (omega arith) 4 1 (omega arith) refl refl);
-  ascending = ascends-pairs IsBefore branching.edges ascend;
+  ascending = AllPairs-from_ascends IsBefore branching.edges ascend;
   inputs_apart = λ u v port a b. first u port a ∙ sym (first v port b);
   outputs_apart = λ u v port a b. last u port a ∙ sym (last v port b);
   outputs_within = λ v port a. let none = no_port_of_five v (record { kind = Output; port = port }) a in omega arith;

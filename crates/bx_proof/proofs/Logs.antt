@@ -1,6 +1,6 @@
 -- Steps of clauses and hints: how many there are, which stands at a place, and one more behind them.
 use Rattle.std.proofs.Common.{◌≡◌, ℕ, zero, suc, ◌+◌, ◌^◌, ◌<◌, ◌≤◌, List, [], ◌∷◌, ◌++◌, length, Option, Some, None, refl, sym, ap, ◌∙◌, subst, arith, length-append, false, Result, Ok, Err}
-use Rattle.std.specs.Prelude.{slice_get, All, OnOk, is_err}
+use Rattle.std.specs.Prelude.{slice_get, OnOk, is_err}
 use Rattle.std.specs.Option.{option_map}
 use Rattle.bx_cnf.specs.Literals.{Literal}
 use Rattle.bx_proof.specs.Steps.{Step, StepList, IsStep, AreSteps, steps_of, IsLog}

@@ -1,5 +1,6 @@
 -- What reads a module reads each that the grammar has, and nothing else.
 use Rattle.std.proofs.Common.{◌≡◌, ◌≢◌, ℕ, zero, suc, ◌<◌, ◌≤◌, Bool, true, false, ◌&&◌, cond, List, [], ◌∷◌, length, length-append, Option, Some, None, Result, Ok, Err, refl, sym, ap, subst, ◌∙◌, ◌⊎◌, inl, inr, ⊎_elim, arith}
+use Rattle.std.proofs.lemmas.Bool.{and_from}
 use Rattle.std.specs.Option.{is_some}
 use Rattle.std.specs.Prelude.{IsSome, is_ok}
 use Rattle.bx_logic.specs.declared.op.Op.{Op}
@@ -584,15 +585,12 @@ name_step_again limit n v ts c d e f g = rw (mark_again Comma ts c e, expression
 pub comma_and : (b : Bool) (ts : List Terminal) → next_is Comma ts ≡ false → next_is Comma ts && b ≡ false
 comma_and b ts e = rw e refl
 
-both_true : (a b : Bool) → a ≡ true → b ≡ true → a && b ≡ true
-both_true a b e f = rw (e, f) refl
-
 names_again : (limit : ℕ) (t : Tree) (ns : List (List ℕ)) (u : Tree) (ts rest : List Terminal) → AreNames limit t ns u ts rest → Closes rest → next_is Comma rest ≡ false →
     repeated comma_behind_net (name_and_expression limit) t ts ≡ Ok ((ns, u), rest)
 names_again limit t [] u ts rest (same, e) c n =
     rw (same, e) (repeated_stops comma_behind_net (name_and_expression limit) u rest (comma_and (is_net u) rest n))
 names_again limit t (n ∷ ns) u ts rest (v, a, b, is, e, f, g) c k =
-    rw is (repeated_step comma_behind_net (name_and_expression limit) (names_repeat limit) (net n) v n ts b (both_true (next_is Comma ts) true (next_again Comma ts a e) refl)
+    rw is (repeated_step comma_behind_net (name_and_expression limit) (names_repeat limit) (net n) v n ts b (and_from (next_is Comma ts) true (next_again Comma ts a e) refl)
     (name_step_again limit n v ts a b e f (names_close limit v ns u b rest g c))
     ∙ ap (ahead_of (n ∷ [])) (names_again limit v ns u b rest g c k))
 

@@ -15,7 +15,7 @@ use Rattle.bx_verilog.specs.Formulas.{Text, Formula, formula}
 use Rattle.bx_verilog.specs.Drives.{Drive, drive, drives_of, parts_of, drives}
 use Rattle.bx_verilog.specs.Elaboration.{net_numbers}
 use Rattle.bx_verilog.proofs.OwnNets.{length-net_numbers}
-use Rattle.bx_verilog.proofs.Membership.{Member, Contains-from_member, Member-from_contains, Member-flat_map_cases}
+use Rattle.bx_logic.proofs.Members.{Member, Contains-from_member, Member-from_contains, Member-flat_map_cases}
 
 -- it stands somewhere among terminals
 abbrev Stands : {A : Type 0} → (A → Between) → A → Type 0

@@ -23,7 +23,8 @@ use Rattle.bx_verilog.specs.Faults.{HasTwoDrivers, IsDriven, IsFree, IsLeast, Is
 use Rattle.bx_verilog.specs.Elaboration.{inner_size, own, all_own, net_number, net_numbers, name_count, driver_of, net_of}
 use Rattle.bx_verilog.proofs.Driving.{drive-mention, read-mention, driver-of-target, driver-cases, IsGateOf}
 use Rattle.bx_verilog.proofs.InnerNets.{FormulaLies, FormulasLie, constant-lies, negation-lies, pair-lies, formulas-lie, arguments-lie, inner-net, named-driver}
-use Rattle.bx_verilog.proofs.Membership.{Member-from_contains, Member-splits, Contains-nil, Contains-here, Contains-there, Contains-cases}
+use Rattle.bx_logic.proofs.Members.{Member-from_contains}
+use Rattle.bx_verilog.proofs.Membership.{Member-splits, Contains-nil, Contains-here, Contains-there, Contains-cases}
 use Rattle.bx_verilog.proofs.Numbering.{mentioned, number-at, number-of, number-within}
 
 -- the only item

@@ -5,7 +5,7 @@ use Rattle.std.specs.List.{AllByRecursion}
 use Rattle.std.specs.Str.{bytes_eq}
 use Rattle.bx_verilog.specs.Formulas.{Text}
 use Rattle.bx_verilog.proofs.Firsts.{same_texts, other_texts}
-use Rattle.bx_verilog.proofs.Membership.{Member}
+use Rattle.bx_logic.proofs.Members.{Member}
 
 -- of two facts that follow from each other one holds where the other does
 unfoldable pub dec_from : (P Q : Type 0) → (P → Q) → (Q → P) → Dec P → Dec Q

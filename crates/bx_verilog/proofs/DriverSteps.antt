@@ -27,7 +27,7 @@ use Rattle.bx_verilog.specs.Lowering.{AreLowered, shown_drive, driver_among, Are
 use Rattle.bx_verilog.proofs.Firsts.{same_texts, same_bytes, other_texts}
 use Rattle.bx_verilog.proofs.Lowering.{all_lowered_length}
 use Rattle.bx_verilog.proofs.OwnNets.{inner_size-append, length-inner_drivers}
-use Rattle.bx_verilog.proofs.Membership.{Member-from_get_or, Member-flat_map, AllByRecursion-from_member, member_of_AllByRecursion}
+use Rattle.bx_logic.proofs.Members.{Member-from_get_or, Member-flat_map, AllByRecursion-from_member, member_of_AllByRecursion}
 
 -- Lists that are maps.
 map_same : {X Y : Type 0} (F G : X → Y) → ((x : X) → F x ≡ G x) → (xs : List X) → map F xs ≡ map G xs

@@ -24,7 +24,8 @@ use Rattle.bx_verilog.specs.Formulas.{Text, Formula, formula, names_of}
 use Rattle.bx_verilog.specs.Drives.{Drive, drive, drives_of, parts_of, drives}
 use Rattle.bx_verilog.specs.Mentions.{Mention, all_as, direction_mentions, port_mentions, reads_mentions, part_mentions, mentions, count, is_driven, inputs, number}
 use Rattle.bx_verilog.specs.Elaboration.{all_own, inner_size, net_numbers, gate_of, name_count, chosen, driver_of}
-use Rattle.bx_verilog.proofs.Membership.{Member, Contains-from_member, Member-from_contains, Member-append_left, Member-append_right, Member-append_cases, Member-map, Member-map_cases, Member-flat_map, Member-flat_map_cases, counted, counted-append, counted-same, count_by-some}
+use Rattle.bx_logic.proofs.Members.{Member, Contains-from_member, Member-from_contains, Member-append_left, Member-append_right, Member-append_cases, Member-map, Member-map_cases, Member-flat_map, Member-flat_map_cases}
+use Rattle.bx_verilog.proofs.Membership.{counted, counted-append, counted-same, count_by-some}
 use Rattle.bx_verilog.proofs.Firsts.{same_texts, same_bytes}
 
 targets-driven : (ns : List Text) (rest : List Mention) (n : Text) → Member n ns → Member (n, Driven) (all_as Driven ns ++ rest)

@@ -31,7 +31,7 @@ use Rattle.bx_verilog.proofs.Arity.{drive-arity}
 use Rattle.bx_verilog.proofs.Driving.{IsGateOf, driver-cases, read-mention}
 use Rattle.bx_verilog.proofs.Firsts.{same_texts, place-of}
 use Rattle.bx_verilog.proofs.InnerNets.{length-drivers, driver-at-name, named-driver}
-use Rattle.bx_verilog.proofs.Membership.{Member, Contains-from_member, Member-from_contains, Member-append_left, Member-append_right, AllByRecursion-from_member}
+use Rattle.bx_logic.proofs.Members.{Member, Contains-from_member, Member-from_contains, Member-append_left, Member-append_right, AllByRecursion-from_member}
 use Rattle.bx_verilog.proofs.Inputs.{port_names, port-named, input-at, inputs-distinct, once-driven}
 use Rattle.bx_verilog.proofs.Places.{position-of}
 use Rattle.bx_verilog.proofs.MentionSizes.{nets-fit}

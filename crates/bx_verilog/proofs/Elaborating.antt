@@ -18,7 +18,7 @@ use Rattle.bx_verilog.specs.Lowering.{HaveArguments}
 use Rattle.bx_verilog.proofs.Arity.{drive-arity}
 use Rattle.bx_verilog.proofs.Cyclic.{acyclic-names, cycle-named}
 use Rattle.bx_verilog.proofs.ElaboratedNets.{is_net, few-nets, reads-nets-only}
-use Rattle.bx_verilog.proofs.Membership.{AllByRecursion-from_member, Contains-from_member}
+use Rattle.bx_logic.proofs.Members.{AllByRecursion-from_member, Contains-from_member}
 use Rattle.bx_verilog.proofs.MentionSizes.{nets-fit}
 use Rattle.bx_verilog.proofs.OneMeaning.{one-meaning}
 

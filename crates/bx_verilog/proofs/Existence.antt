@@ -23,7 +23,7 @@ use Rattle.bx_verilog.proofs.Decisions.{dec_from, dec_both, dec_either, dec_memb
 use Rattle.bx_verilog.proofs.Driving.{drive-mention}
 use Rattle.bx_verilog.proofs.Inputs.{inputs-distinct}
 use Rattle.bx_verilog.proofs.Firsts.{same_texts, same_bytes}
-use Rattle.bx_verilog.proofs.Membership.{Member, Member-from_contains, Contains-from_member, member_of_AllByRecursion}
+use Rattle.bx_logic.proofs.Members.{Member, Member-from_contains, Contains-from_member, member_of_AllByRecursion}
 use Rattle.bx_verilog.proofs.Numbering.{mentioned, count-mention}
 
 -- Values of the inputs.

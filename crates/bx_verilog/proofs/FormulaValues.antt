@@ -8,7 +8,7 @@ use Rattle.bx_logic.specs.Op.{op_value}
 use Rattle.bx_logic.specs.Values.{driver_value}
 use Rattle.bx_verilog.specs.Formulas.{Text, Formula, named, constant, negation, pair, operation, formula_value, names_of}
 use Rattle.bx_verilog.specs.Elaboration.{own, all_own, net_number, own_drivers, net_numbers, all_own_drivers}
-use Rattle.bx_verilog.proofs.Membership.{Member, Member-append_left, Member-append_right}
+use Rattle.bx_logic.proofs.Members.{Member, Member-append_left, Member-append_right}
 use Rattle.bx_verilog.proofs.OwnNets.{length-own_drivers}
 
 -- each item of a list has this with its number, where they are numbered from `first` on

@@ -25,7 +25,8 @@ use Rattle.bx_verilog.specs.Elaboration.{name_count, chosen, driver_of}
 use Rattle.bx_verilog.proofs.Numbering.{mentioned, count-some, count-mention}
 use Rattle.bx_verilog.proofs.Firsts.{same_bytes, text-at}
 use Rattle.bx_verilog.proofs.Places.{position-of}
-use Rattle.bx_verilog.proofs.Membership.{Member, Member-from_contains, Contains-from_member, Member-append_cases, Member-map, Member-map_cases, Member-flat_map_cases, Member-filter, Member-filter_cases, AllByRecursion-from_member, AreDistinct-filter, count_by-some, counted, counted-append}
+use Rattle.bx_logic.proofs.Members.{Member, Member-from_contains, Contains-from_member, Member-append_cases, Member-map, Member-map_cases, Member-flat_map_cases, Member-filter, Member-filter_cases, AllByRecursion-from_member}
+use Rattle.bx_verilog.proofs.Membership.{AreDistinct-filter, count_by-some, counted, counted-append}
 use Rattle.bx_verilog.proofs.Driving.{no-gate-of-input}
 
 -- an expression has no port of the header, nor has any part behind the header

@@ -21,7 +21,8 @@ use Rattle.bx_verilog.specs.Mentions.{mentions, names, number, count, is_output,
 use Rattle.bx_verilog.specs.Faults.{IsDriven, IsAccepted}
 use Rattle.bx_verilog.specs.Equations.{Equation, equations_of, module_of, Assignment, Meets, IsValuation, Gives}
 use Rattle.bx_verilog.specs.Elaboration.{all_own, inner_size, net_numbers, all_own_drivers, inner_drivers, name_count, driver_of, net_of}
-use Rattle.bx_verilog.proofs.Membership.{Member, Member-from_contains, Contains-from_member, Member-from_get_or, Member-map, Member-map_cases, Member-flat_map, Member-flat_map_cases, Member-append_right, AllByRecursion-from_member, member_of_AllByRecursion, Member-splits}
+use Rattle.bx_logic.proofs.Members.{Member, Member-from_contains, Contains-from_member, Member-from_get_or, Member-map, Member-map_cases, Member-flat_map, Member-flat_map_cases, Member-append_right, AllByRecursion-from_member, member_of_AllByRecursion}
+use Rattle.bx_verilog.proofs.Membership.{Member-splits}
 use Rattle.bx_verilog.proofs.Numbering.{number-at, number-within, mentioned, count-some, count-mention}
 use Rattle.bx_verilog.proofs.InnerNets.{length-drivers, named-driver}
 use Rattle.bx_verilog.proofs.OwnNets.{length-all_own_drivers}

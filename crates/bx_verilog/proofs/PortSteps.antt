@@ -13,7 +13,7 @@ use Rattle.bx_verilog.specs.Mentions.{count, names, number, mentions, port_menti
 use Rattle.bx_verilog.specs.Drives.{parts_of}
 use Rattle.bx_verilog.specs.Shown.{number_among}
 use Rattle.bx_verilog.specs.Uses.{AreUses, uses_among}
-use Rattle.bx_verilog.proofs.Membership.{Member, Member-from_get_or, Member-flat_map, Member-append_left, Contains-from_member}
+use Rattle.bx_logic.proofs.Members.{Member, Member-from_get_or, Member-flat_map, Member-append_left, Contains-from_member}
 use Rattle.bx_verilog.proofs.Numbering.{mentioned, number-within}
 use Rattle.bx_verilog.proofs.Counting.{same-length, uses-at_number}
 

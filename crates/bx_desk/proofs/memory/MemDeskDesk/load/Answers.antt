@@ -2,7 +2,7 @@ use Rattle.std.proofs.Common.{◌≡◌, Result, Ok, Err, refl, ap, subst, sym, 
 use Rattle.std.specs.Bool.{IsTrue}
 use Rattle.std.specs.Option.{is_none}
 use Rattle.std.specs.Prelude.{OnOk}
-use Rattle.bx_desk.specs.Memory.{shown, seen, found, after_load}
+use Rattle.bx_desk.specs.Memory.{shown, seen, found}
 use Rattle.bx_desk.specs.Slots.{file_bytes}
 use Rattle.bx_desk.proofs.MemoryCalls.{found_is, load_failed, load_found, load_missing, file-found, whole, front, answer, fails_found}
 use Rattle.bx_desk.proofs.memory.MemDeskDesk.load.Goals as goal

@@ -1,4 +1,4 @@
-use Rattle.std.proofs.Common.{◌≡◌, ◌∙◌, ◌≤◌, Bool, true, false, subst, refl}
+use Rattle.std.proofs.Common.{◌≡◌, ◌∙◌, ◌≤◌, true, false, subst, refl}
 use Rattle.bx_desk.specs.Memory.{State, shown, cannot_say, after_say}
 use Rattle.bx_desk.proofs.MemoryCalls.{say_refused, say_steps, say_ok, say_err}
 use Rattle.bx_desk.proofs.memory.MemDeskDesk.say.Goals as goal

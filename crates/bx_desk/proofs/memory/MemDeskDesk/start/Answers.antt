@@ -1,8 +1,8 @@
-use Rattle.std.proofs.Common.{◌≡◌, ◌∙◌, ℕ, ◌≤◌, List, Option, None, Some, Bool, true, false, subst, sym, ap, refl}
-use Rattle.std.specs.Option.{is_some, is_none}
+use Rattle.std.proofs.Common.{◌≡◌, ◌∙◌, ℕ, ◌≤◌, List, Option, None, true, false, subst, sym, ap, refl}
+use Rattle.std.specs.Option.{is_some}
 use Rattle.bx_desk.specs.Slots.{SlotState, with_slot, started_slot}
 use Rattle.bx_desk.specs.Shelves.{slots_of, started_of}
-use Rattle.bx_desk.specs.Memory.{State, shown, counted, next_kept, cannot_start, after_start}
+use Rattle.bx_desk.specs.Memory.{State, shown, counted, cannot_start, after_start}
 use Rattle.bx_desk.proofs.MemoryCalls.{start_planned, start_placed, none_where_not_some, start_after_ok, start_after_err, start_ok, start_err}
 use Rattle.bx_desk.proofs.memory.MemDeskDesk.start.Goals as goal
 

@@ -1,7 +1,6 @@
-use Rattle.std.proofs.Common.{◌≡◌, ℕ, List, ◌++◌, rules, length, take, ◌-◌, ◌∙◌, subst, arith}
+use Rattle.std.proofs.Common.{ℕ, List, ◌++◌, rules, length, ◌-◌, ◌∙◌, subst, arith}
 use Rattle.std.proofs.lemmas.Result.{MatchResult-from_err}
 use borrow.Rule.Slice.PartMut.{put_mid}
-use Rattle.bx_desk.specs.Desk.{DeskState}
 use Rattle.bx_desk.specs.Pieces.{pending, PutsUpTo}
 use Rattle.bx_desk.proofs.Filled.{filled, less_a_buffer}
 use Rattle.bx_desk.proofs.Put.{puts_piece, puts_front}

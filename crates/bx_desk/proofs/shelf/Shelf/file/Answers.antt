@@ -1,7 +1,7 @@
-use Rattle.std.proofs.Common.{◌≡◌, ◌∙◌, ℕ, List, Option, Some, None, sym, ap, Bor}
+use Rattle.std.proofs.Common.{◌≡◌, ◌∙◌, ℕ, List, Option, Some, sym, ap, Bor}
 use Rattle.std.specs.Prelude.{option_map}
-use Rattle.bx_desk.specs.Slots.{SlotState, file_bytes}
-use Rattle.bx_desk.specs.Shelves.{slot_at, slot_state, slots_of, file_state, index_from}
+use Rattle.bx_desk.specs.Slots.{file_bytes}
+use Rattle.bx_desk.specs.Shelves.{slot_state, slots_of, file_state}
 use Rattle.bx_desk.specs.declared.shelf.Space.{Space}
 use Rattle.bx_desk.proofs.Slotted.{is_at, missing}
 use Rattle.bx_desk.proofs.shelf.Shelf.file.Goals as goal

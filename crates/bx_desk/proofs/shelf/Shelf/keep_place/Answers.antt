@@ -1,4 +1,4 @@
-use Rattle.std.proofs.Common.{◌≡◌, ◌∙◌, List, refl, rules, arith, Some}
+use Rattle.std.proofs.Common.{◌≡◌, ◌∙◌, refl, arith, Some}
 use Rattle.bx_desk.specs.Slots.{kept_place}
 use Rattle.bx_desk.specs.Shelves.{slots_of}
 use Rattle.bx_desk.specs.declared.shelf.Slot.{Slot}

@@ -1,4 +1,4 @@
-use Rattle.std.proofs.Common.{◌≡◌, ◌∙◌, List, refl, rules, Some}
+use Rattle.std.proofs.Common.{◌≡◌, ◌∙◌, refl, rules, Some}
 use Rattle.bx_desk.specs.Slots.{held}
 use Rattle.bx_desk.specs.Shelves.{slots_of}
 use Rattle.bx_desk.specs.declared.shelf.Slot.{Slot}

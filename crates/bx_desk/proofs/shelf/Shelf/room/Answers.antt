@@ -1,4 +1,4 @@
-use Rattle.std.proofs.Common.{◌≡◌, ◌∙◌, Option, Some, None, sym, ap, rules}
+use Rattle.std.proofs.Common.{◌≡◌, ◌∙◌, Option, Some, None, sym, ap}
 use Rattle.std.specs.Prelude.{option_map}
 use Rattle.bx_desk.specs.Slots.{room_of}
 use Rattle.bx_desk.specs.Shelves.{file_state, started_of}

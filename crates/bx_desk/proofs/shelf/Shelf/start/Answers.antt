@@ -1,8 +1,8 @@
-use Rattle.std.proofs.Common.{◌≡◌, ◌∙◌, Option, Some, None, Bool, refl, sym, ap}
+use Rattle.std.proofs.Common.{◌≡◌, ◌∙◌, Option, Some, Bool, refl, sym, ap}
 use Rattle.std.specs.Option.{is_some}
 use Rattle.std.specs.Prelude.{option_map, string_bytes}
 use Rattle.bx_desk.specs.Slots.{SlotState, started_slot}
-use Rattle.bx_desk.specs.Shelves.{slot_at, slot_state, slots_of, index_from}
+use Rattle.bx_desk.specs.Shelves.{slot_state, slots_of, index_from}
 use Rattle.bx_desk.specs.declared.shelf.Slot.{Slot}
 use Rattle.bx_desk.specs.declared.shelf.Space.{Space}
 use Rattle.bx_desk.proofs.Slotted.{is_at, missing, set_slot, set_name, started_state}

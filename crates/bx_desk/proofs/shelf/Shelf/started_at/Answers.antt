@@ -1,4 +1,4 @@
-use Rattle.std.proofs.Common.{◌≡◌, ◌∙◌, ◌<◌, ap, Some, rules, length, arith}
+use Rattle.std.proofs.Common.{◌≡◌, ◌<◌, Some, rules, length}
 use Rattle.bx_desk.proofs.Slotted.{started_found}
 use Rattle.bx_desk.proofs.shelf.Shelf.started_at.Goals as goal
 

@@ -1,4 +1,4 @@
-use Rattle.std.proofs.Common.{◌≡◌, ◌<◌, ◌^◌, length, rules, arith, Fits}
+use Rattle.std.proofs.Common.{◌<◌, ◌^◌, rules, arith}
 use Rattle.bx_proof.proofs.Logs.{counted, few}
 use Rattle.bx_proof.proofs.steps.Steps.len.Goals as goal
 

@@ -1,4 +1,4 @@
-use Rattle.std.proofs.Common.{◌≡◌, ◌++◌, ◌∷◌, [], sym, ◌∙◌, ap}
+use Rattle.std.proofs.Common.{◌≡◌, ◌++◌, ◌∷◌, [], sym, ◌∙◌}
 use Rattle.bx_proof.proofs.Logs.{at_ok, on_ok, log_push}
 use Rattle.bx_proof.proofs.steps.Steps.push.Goals as goal
 

@@ -2,7 +2,7 @@
 use Rattle.std.proofs.Common.{◌≡◌, ℕ, zero, suc, ◌+◌, ◌<◌, ◌≤◌, ◌⊎◌, Bool, true, false, cond, List, [], ◌∷◌, ◌++◌, map, filter, flat_map, length, get_or, AllPairs, inl, inr, refl, subst, arith}
 use Rattle.std.specs.Prelude.{⊤}
 use Rattle.std.specs.List.{AllByRecursion, range_with_len}
-use Rattle.bx_grid.proofs.Members.{Member, Member-append_right, Member-append_cases, Member-filter_cases, Member-map_cases, Member-flat_map_cases, AllByRecursion-from_member, member_of_AllByRecursion}
+use Rattle.bx_logic.proofs.Members.{Member, Member-append_right, Member-append_cases, Member-filter_cases, Member-map_cases, Member-flat_map_cases, AllByRecursion-from_member, member_of_AllByRecursion}
 
 pub at_or_above : (a x : ℕ) → a ≤ x → (a ≡ x) ⊎ (a + 1 ≤ x)
 at_or_above a x low = grind arith

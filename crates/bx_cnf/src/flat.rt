@@ -26,14 +26,6 @@ impl<T> Model for Flat<T> {
     ghost invariant = { λ flat. IsFlat flat.ends.items (length flat.items.items) };
 }
 
-// Where list k begins: at the end of the one before, and the first at 0.
-fn start_of(ends: &[u32], k: usize) -> u32
-    requires { k ≤ length ends.now }
-    ensures { result ≡ slice_index (0 ∷ ends.now) k }
-{
-    if k == 0 { 0 } else { ends[k - 1] }
-}
-
 impl<T> Flat<T> {
     /// No lists. Takes no memory.
     pub fn new(alloc: Global) -> Self
@@ -96,4 +88,12 @@ impl<T: Drop> Flat<T> {
         self.ends.truncate(k);
         self.items.truncate(start as usize);
     }
+}
+
+// Where list k begins: at the end of the one before, and the first at 0.
+fn start_of(ends: &[u32], k: usize) -> u32
+    requires { k ≤ length ends.now }
+    ensures { result ≡ slice_index (0 ∷ ends.now) k }
+{
+    if k == 0 { 0 } else { ends[k - 1] }
 }

@@ -173,9 +173,9 @@ fn without(left_out: u8) -> Permit {
     Permit::same(forms)
 }
 
-// Rows, places, an edge more on a border, a form that isn't permitted, and whether the layout is legal. No
+// Rows, places, an edge more on a border or in another's stead, a form that isn't permitted, and whether the layout is legal. No
 // border has the number 99, and no form the number 28.
-const LAYOUTS: [(u32, [u32; 5], (u32, u32), u8, bool); 6] = [
+const LAYOUTS: [(u32, [u32; 5], (u32, u32), u8, bool); 7] = [
     (9, PLACES, (99, 0), 28, true),
     // 1. There is no edge 5, and two nodes don't share a tile.
     (9, PLACES, (3, 5), 28, false),
@@ -184,6 +184,8 @@ const LAYOUTS: [(u32, [u32; 5], (u32, u32), u8, bool); 6] = [
     (10, PLACES, (99, 0), 28, false),
     // 4. Edge 0 goes another way beside its own.
     (9, PLACES, (3, 0), 28, false),
+    // 5. The inversion stands where two edges go side by side: one ends in it, and the other goes through.
+    (9, [0, 2, 10, 14, 16], (21, 3), 28, false),
     // 6. The cross may not stand there.
     (9, PLACES, (99, 0), 27, false),
 ];
@@ -223,5 +225,45 @@ fn edges_cross_and_go_side_by_side(rt: HostRuntime) -> Result<(), Fail> {
             assert_eq!(rt; form.map(|form| form.number()), FORMS[place]);
         }
     }
+    Ok(())
+}
+
+// ---- An input straight above the output that reads it, on one column and two rows.
+
+fn straight_net(alloc: Global) -> Result<MappedNet, Fail> {
+    let nodes = vec![in alloc; node(Kind::Input), node(Kind::Output)]?;
+    let edges = vec![in alloc; edge(0, 0, 1, 0)]?;
+    Ok(MappedNet::new(alloc, nodes, edges)?)
+}
+
+// The layout with these places. The edge goes by the border on the lower right of the upper tile.
+fn column_of(alloc: Global, places: [u32; 2]) -> Result<Layout, Fail> {
+    Ok(Layout {
+        ratio: Ratio { w: 1, h: 2 },
+        places: Places::new(Vec::from_slice(alloc, &places)?),
+        borders: Borders::new(vec![in alloc; None, Some(0), None, None]?),
+    })
+}
+
+#[test]
+fn an_input_stands_above_its_output(rt: HostRuntime) -> Result<(), Fail> {
+    let net = straight_net(rt.alloc())?;
+    let all = without(28);
+    assert!(rt; is_legal(&net, &all, &column_of(rt.alloc(), [0, 1])?));
+    assert!(rt; !is_legal(&net, &all, &column_of(rt.alloc(), [1, 0])?));
+    Ok(())
+}
+
+#[test]
+fn an_output_reads_the_value_of_its_input(rt: HostRuntime) -> Result<(), Fail> {
+    let net = straight_net(rt.alloc())?;
+    let layout = column_of(rt.alloc(), [0, 1])?;
+    let grid = grid_of(rt.alloc(), &net, &layout)?.ok_or("the layout isn't legal")?;
+    let ratio = grid.ratio();
+    assert_eq!(rt; (ratio.w, ratio.h), (1, 2));
+    let mut borders = [false; 4];
+    eval_grid(&grid, &[true], &mut borders);
+    assert_eq!(rt; borders, [false, true, false, false]);
+    assert!(rt; out_value(&grid, &borders, 1));
     Ok(())
 }

@@ -3,3 +3,5 @@ pub mod Put
 pub mod Slotted
 pub mod MemoryCalls
 pub mod CallLaws
+pub mod Joined
+pub mod Saying

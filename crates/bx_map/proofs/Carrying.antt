@@ -18,7 +18,8 @@ use Rattle.bx_map.specs.declared.cell.Cell.{Cell}
 use Rattle.bx_map.specs.declared.cell.Cell.TheVariants.{Input, Not, Gate}
 use Rattle.bx_map.specs.FanOuts.{IsCellNet}
 use Rattle.bx_map.specs.Cells.{CellNet, cell_at, kind_of, port_of, operands_of}
-use Rattle.bx_map.specs.FanOuts.{operand, output, served}
+use Rattle.bx_map.specs.declared.consumer.Consumer.TheVariants.{Operand, Output}
+use Rattle.bx_map.specs.FanOuts.{served}
 use Rattle.bx_map.specs.Numbers.{cell_node, fan_node, fans, nodes_before, output_nodes, number, numbered}
 use Rattle.bx_map.proofs.Numbering.{number-next, number-rises}
 use Rattle.bx_map.proofs.Networked.{node-at, output-at, get-behind}
@@ -130,14 +131,14 @@ module _ (net : CellNet) (h : IsCellNet net) (is : IsNetwork (numbered net)) (bi
       let n = number-next net j in
       let same = same-block net i j (number net j) (omega arith) high (omega arith) (omega (arith, n)) in
       absurd (let e = ap (number net) same in omega (arith, e, low))
-  cell-reads-by j o i l (inr (operand c k, r, t)) m =
+  cell-reads-by j o i l (inr (Operand c k, r, t)) m =
       let at : number net j ≡ number net c = node_of t in
       let by : o ≡ k = operand_of t in
       let n = number-next net j in
       let p = number-next net c in
       let same = same-block net c j (number net j) (omega (arith, at)) (omega (arith, at, p)) (omega arith) (omega (arith, n)) in
       ap₂ (λ (a b : ℕ). get_or (operands_of (cell_at net.cells a)) b 0) (sym same) by ∙ r.1
-  cell-reads-by j o i l (inr (output p, r, t)) m =
+  cell-reads-by j o i l (inr (Output p, r, t)) m =
       let at : number net j ≡ number net (length net.cells) + p = node_of t in
       let n = number-next net j in
       let b = below-outputs j (number net j) l (omega (arith, n)) in
@@ -153,13 +154,13 @@ module _ (net : CellNet) (h : IsCellNet net) (is : IsNetwork (numbered net)) (bi
   fan-reads-by : (w b i : ℕ) → b < length net.cells → number net b ≤ w → w < number net (suc b) → slice_get (numbered net).nodes w ≡ Some fan_node →
       EndsAt net i (record { node = w; operand = 0 }) → i < length net.cells → i ≡ b
   fan-reads-by w b i l low high at (inl (over, under)) m = same-block net i b w (omega arith) under low high
-  fan-reads-by w b i l low high at (inr (operand c k, r, t)) m =
+  fan-reads-by w b i l low high at (inr (Operand c k, r, t)) m =
       let here : w ≡ number net c = node_of t in
       let found = sym at ∙ (ap (slice_get (numbered net).nodes) here ∙ cell-found net c r.0) in
       let same = some-node fan_node (cell_node (cell_at net.cells c)) found in
       let two : 2 ≡ slots (kind_of (cell_at net.cells c)) = ap (λ (n : Node). slots n.kind) same in
       absurd (omega (arith, two, h.slot c r.0))
-  fan-reads-by w b i l low high at (inr (output p, r, t)) m =
+  fan-reads-by w b i l low high at (inr (Output p, r, t)) m =
       let here : w ≡ number net (length net.cells) + p = node_of t in
       let under = below-outputs b w l high in
       absurd (omega (arith, here, under))
@@ -172,12 +173,12 @@ module _ (net : CellNet) (h : IsCellNet net) (is : IsNetwork (numbered net)) (bi
 
   output-reads-by : (w p i : ℕ) → w ≡ number net (length net.cells) + p → EndsAt net i (record { node = w; operand = 0 }) → i < length net.cells → get_or net.outputs p 0 ≡ i
   output-reads-by w p i at (inl (low, high)) m = let b = below-outputs i w m high in absurd (omega (arith, at, b))
-  output-reads-by w p i at (inr (operand c k, r, t)) m =
+  output-reads-by w p i at (inr (Operand c k, r, t)) m =
       let here : w ≡ number net c = node_of t in
       let n = number-next net c in
       let b = below-outputs c (number net c) r.0 (omega (arith, n)) in
       absurd (omega (arith, at, here, b))
-  output-reads-by w p i at (inr (output q, r, t)) m =
+  output-reads-by w p i at (inr (Output q, r, t)) m =
       let here : w ≡ number net (length net.cells) + q = node_of t in
       let same : p ≡ q = omega (arith, at, here) in
       ap (λ (k : ℕ). get_or net.outputs k 0) same ∙ r.1

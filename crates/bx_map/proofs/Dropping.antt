@@ -10,7 +10,8 @@ use Rattle.bx_map.specs.FanOuts.{IsCellNet}
 use Rattle.bx_map.specs.Cells.{CellNet, cell_at, kind_of, operands_of, renumbered, AreCells}
 use Rattle.bx_map.specs.Walks.{has}
 use Rattle.bx_map.specs.Drops.{staying, rank, stay_of, dropped}
-use Rattle.bx_map.specs.FanOuts.{Use, operand_uses, cell_uses, output_uses, uses, consumers}
+use Rattle.bx_map.specs.declared.consumer.Use.{Use}
+use Rattle.bx_map.specs.FanOuts.{operand_uses, cell_uses, output_uses, uses, consumers}
 use Rattle.bx_map.proofs.Tallies.{one_if, tally, tally-append, length-filter}
 use Rattle.bx_map.proofs.Networked.{HasPortsApart}
 use Rattle.bx_map.proofs.Keeping.{Has, has-itself, all-has, has-map, has-get_or, staying-within, staying-rises, wanted-stay, read-stay, stay-read, at-rank, rank-at, rank-less, rank-within}

@@ -10,15 +10,18 @@ use Rattle.bx_map.specs.declared.cell.Cell.{Cell}
 use Rattle.bx_map.specs.declared.cell.Cell.TheVariants.{Input, Not, Gate}
 use Rattle.bx_map.specs.FanOuts.{IsCellNet}
 use Rattle.bx_map.specs.Cells.{CellNet, cell_at, operands_of}
-use Rattle.bx_map.specs.FanOuts.{Consumer, operand, output, Use, operand_uses, output_uses, uses, consumers, FanOut, direct, fan, served}
+use Rattle.bx_map.specs.declared.consumer.Consumer.{Consumer}
+use Rattle.bx_map.specs.declared.consumer.Consumer.TheVariants.{Operand, Output}
+use Rattle.bx_map.specs.declared.consumer.Use.{Use}
+use Rattle.bx_map.specs.FanOuts.{operand_uses, output_uses, uses, consumers, FanOut, direct, fan, served}
 use Rattle.bx_map.specs.Numbers.{edge_to, fans, nodes_before, number, place, entry, fan_edges, edges_before, numbered}
 use Rattle.bx_map.proofs.Numbering.{leaves, leaves-served, number-next, number-rises, all-append, all-first, all-second, all-uses, target_of}
 use Rattle.bx_map.proofs.Networked.{all-consumers}
 
 -- what a consumer reads: this is the operand of the cell, or the cell of the output
 abbrev pub IsRead : CellNet → ℕ → Consumer → Type 0
-IsRead net i (operand j k) = (j < length net.cells) × (get_or (operands_of (cell_at net.cells j)) k 0 ≡ i)
-IsRead net i (output p) = (p < length net.outputs) × (get_or net.outputs p 0 ≡ i)
+IsRead net i (Operand j k) = (j < length net.cells) × (get_or (operands_of (cell_at net.cells j)) k 0 ≡ i)
+IsRead net i (Output p) = (p < length net.outputs) × (get_or net.outputs p 0 ≡ i)
 
 abbrev IsUseRead : CellNet → Use → Type 0
 IsUseRead net u = IsRead net u.cell u.consumer

@@ -1,15 +1,19 @@
 -- The mapped network of a net is a network.
-use Rattle.std.proofs.Common.{◌≡◌, ℕ, suc, ◌<◌, nat_lt, Bool, true, false, None, List, [], ◌∷◌, length, map, get_or, sym, ◌∙◌, arith, inl, inr}
+use Rattle.std.proofs.Common.{◌≡◌, ℕ, suc, ◌<◌, ◌≤◌, nat_lt, Bool, true, false, None, List, [], ◌∷◌, length, map, get_or, sym, ◌∙◌, ap, ap₂, subst, arith, inl, inr}
 use Rattle.std.specs.List.{AllByRecursion, position, position_or_len}
 use Rattle.std.proofs.lemmas.Bool.{cases_Bool, ltb-false}
 use Rattle.std.proofs.lemmas.List.Sums.{fails_before_first}
 use Rattle.bx_logic.specs.Nets.{Netlist, IsNet, output_nets}
+use Rattle.bx_network.specs.declared.node.Node.{Node}
+use Rattle.bx_network.specs.declared.node.Edge.{Edge}
 use Rattle.bx_network.specs.Networks.{IsNetwork}
 use Rattle.bx_map.specs.declared.cell.Value.{Value}
 use Rattle.bx_map.specs.declared.cell.Value.TheVariants.{Constant, Signal}
-use Rattle.bx_map.specs.Cells.{AreCells}
+use Rattle.bx_map.specs.Cells.{CellNet, AreCells}
 use Rattle.bx_map.specs.Folds.{folding}
 use Rattle.bx_map.specs.Drops.{dropped}
+use Rattle.bx_map.specs.FanOuts.{IsCellNet}
+use Rattle.bx_map.specs.Numbers.{numbered}
 use Rattle.bx_map.specs.Maps.{is_constant, signal_of, output_folds, first_constant, all_cells, mapped, node_count}
 use Rattle.bx_map.proofs.Networked.{numbered-is_network}
 use Rattle.bx_map.proofs.Dropping.{dropped-is_cell_net, dropped-ports_apart}
@@ -50,3 +54,20 @@ pub mapped-is_network : (net : Netlist) → IsNet net → first_constant net ≡
 mapped-is_network net h none few =
     let a = all_cells-are net h none in
     numbered-is_network (dropped (all_cells net)) (dropped-is_cell_net (all_cells net) a) (dropped-ports_apart (all_cells net) a) few
+
+-- the net in cells that the code numbers is one
+pub kept-is_cell_net : (net : Netlist) (cells : CellNet) → IsNet net → first_constant net ≡ None → cells ≡ dropped (all_cells net) → IsCellNet cells
+kept-is_cell_net net cells h none e = subst IsCellNet (sym e) (dropped-is_cell_net (all_cells net) (all_cells-are net h none))
+
+-- the nodes and edges that the code makes are those of the mapped network
+pub mapped-from : (net : Netlist) (cells fan_outs : CellNet) (nodes : List Node) (edges : List Edge) → cells ≡ dropped (all_cells net) → fan_outs ≡ cells → nodes ≡ (numbered fan_outs).nodes → edges ≡ (numbered fan_outs).edges →
+    record { nodes = nodes; edges = edges } ≡ mapped net
+mapped-from net cells fan_outs nodes edges e f g h =
+    let made : record { nodes = nodes; edges = edges } ≡ numbered fan_outs = ap₂ (λ (ns : List Node) (es : List Edge). record { nodes = ns; edges = es }) g h in
+    made ∙ ap numbered (f ∙ e)
+
+pub made-is_network : (net : Netlist) (cells fan_outs : CellNet) (nodes : List Node) (edges : List Edge) (count most : ℕ) → IsNet net → first_constant net ≡ None → cells ≡ dropped (all_cells net) → fan_outs ≡ cells → nodes ≡ (numbered fan_outs).nodes → edges ≡ (numbered fan_outs).edges →
+    count ≡ length (numbered cells).nodes → count ≤ most → most ≤ 65536 → IsNetwork (record { nodes = nodes; edges = edges })
+made-is_network net cells fan_outs nodes edges count most is none e f g h c l m =
+    let size = c ∙ ap (λ (n : CellNet). length (numbered n).nodes) e in
+    subst IsNetwork (sym (mapped-from net cells fan_outs nodes edges e f g h)) (mapped-is_network net is none (omega (arith, size)))

@@ -15,7 +15,9 @@ use Rattle.bx_map.specs.declared.cell.Cell.{Cell}
 use Rattle.bx_map.specs.declared.cell.Cell.TheVariants.{Input, Not, Gate}
 use Rattle.bx_map.specs.FanOuts.{IsCellNet}
 use Rattle.bx_map.specs.Cells.{CellNet, cell_at, kind_of, operands_of}
-use Rattle.bx_map.specs.FanOuts.{Consumer, Use, output_uses, uses, consumers, FanOut, direct, fan, served}
+use Rattle.bx_map.specs.declared.consumer.Consumer.{Consumer}
+use Rattle.bx_map.specs.declared.consumer.Use.{Use}
+use Rattle.bx_map.specs.FanOuts.{output_uses, uses, consumers, FanOut, direct, fan, served}
 use Rattle.bx_map.specs.Numbers.{edge_to, cell_node, fan_node, output_node, fans, nodes_before, output_nodes, number, entry, fan_edges, edges_before, numbered}
 use Rattle.bx_map.proofs.Tallies.{one_if, tally, tally-append, tally-map, length-filter}
 use Rattle.bx_map.proofs.Spots.{row, spots, is_at, spots-at, spots-ascend, IsBeforeSpot, Ascends}

@@ -10,7 +10,10 @@ use Rattle.bx_map.specs.declared.cell.Target.{Target}
 use Rattle.bx_map.specs.declared.cell.Cell.{Cell}
 use Rattle.bx_map.specs.declared.cell.Cell.TheVariants.{Input}
 use Rattle.bx_map.specs.Cells.{CellNet, cell_at, kind_of, operands_of}
-use Rattle.bx_map.specs.FanOuts.{Consumer, operand, output, Use, use_of, operand_uses, cell_uses, output_uses, uses, consumers, FanOut, direct, fan, half, fan_out, served, IsCellNet}
+use Rattle.bx_map.specs.declared.consumer.Consumer.{Consumer}
+use Rattle.bx_map.specs.declared.consumer.Consumer.TheVariants.{Operand, Output}
+use Rattle.bx_map.specs.declared.consumer.Use.{Use}
+use Rattle.bx_map.specs.FanOuts.{use_of, operand_uses, cell_uses, output_uses, uses, consumers, FanOut, direct, fan, half, fan_out, served, IsCellNet}
 use Rattle.bx_map.specs.Numbers.{edge_to, cell_node, fans, nodes_before, output_nodes, number, place, entry, fan_edges, edges_before, numbered}
 use Rattle.bx_map.proofs.Tallies.{one_if, tally, tally-append, tally-map, tally-filter, tally-same, sum_below, sum_below-same, tally-below}
 use Rattle.bx_map.proofs.Spots.{spot, row, spots, spots-append}
@@ -42,7 +45,7 @@ fans-leaves (fan first second) =
     let d = length-append (leaves first) (leaves second) in
     omega (arith, a, b, c, d)
 
-one_leaf : (cs : List Consumer) → 0 < length cs → length cs ≤ 1 → get_or cs 0 (output 0) ∷ [] ≡ cs
+one_leaf : (cs : List Consumer) → 0 < length cs → length cs ≤ 1 → get_or cs 0 (Output 0) ∷ [] ≡ cs
 one_leaf [] l m = absurd (omega arith)
 one_leaf (c ∷ []) l m = refl
 one_leaf (c ∷ d ∷ cs) l m = absurd (omega arith)
@@ -209,11 +212,11 @@ all-uses P net cells outs =
     (subst (λ (cs : List Cell). AllByRecursion P (cell_uses 0 cs)) (take_all (length net.cells) net.cells (omega arith))
     (all-cell_uses P net.cells cells (length net.cells) (omega arith))) outs
 
-pub all-operand_uses : (P : Use → Type 0) (Q : ℕ → Type 0) (j : ℕ) → ((k i : ℕ) → Q i → P (use_of i (operand j k))) → (k : ℕ) (is : List ℕ) → AllByRecursion Q is → AllByRecursion P (operand_uses j k is)
+pub all-operand_uses : (P : Use → Type 0) (Q : ℕ → Type 0) (j : ℕ) → ((k i : ℕ) → Q i → P (use_of i (Operand j k))) → (k : ℕ) (is : List ℕ) → AllByRecursion Q is → AllByRecursion P (operand_uses j k is)
 all-operand_uses P Q j h k [] a = tt
 all-operand_uses P Q j h k (i ∷ is) a = (h k i a.0, all-operand_uses P Q j h (suc k) is a.1)
 
-pub all-output_uses : (P : Use → Type 0) (Q : ℕ → Type 0) → ((j i : ℕ) → Q i → P (use_of i (output j))) → (j : ℕ) (is : List ℕ) → AllByRecursion Q is → AllByRecursion P (output_uses j is)
+pub all-output_uses : (P : Use → Type 0) (Q : ℕ → Type 0) → ((j i : ℕ) → Q i → P (use_of i (Output j))) → (j : ℕ) (is : List ℕ) → AllByRecursion Q is → AllByRecursion P (output_uses j is)
 all-output_uses P Q h j [] a = tt
 all-output_uses P Q h j (i ∷ is) a = (h j i a.0, all-output_uses P Q h (suc j) is a.1)
 

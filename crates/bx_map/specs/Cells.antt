@@ -39,6 +39,9 @@ pub record CellNet : Type 0 where
   pub cells : List Cell
   pub outputs : List ℕ
 
+abbrev pub cell_net : List Cell → List ℕ → CellNet
+cell_net cells outputs = record { cells = cells; outputs = outputs }
+
 -- each cell reads earlier ones
 abbrev pub ReadsEarlier : List Cell → Type 0
 ReadsEarlier cells = (j : ℕ) → AllByRecursion (λ a. a < j) (operands_of (cell_at cells j))

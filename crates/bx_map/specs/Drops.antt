@@ -1,5 +1,5 @@
 -- The drop: only cells from which an output can be reached stay, in their order.
-use Rattle.std.specs.Prelude.{ℕ, zero, suc, ◌≡◌, ◌<◌, nat_lt, ◌+◌, ◌*◌, Bool, true, false, if◌then◌else◌, List, [], ◌∷◌, ◌++◌, length, map, slice_index, slice_index_or, slice_set, Contains}
+use Rattle.std.specs.Prelude.{ℕ, zero, suc, ◌≡◌, ◌<◌, nat_lt, ◌+◌, ◌*◌, if◌then◌else◌, List, [], ◌∷◌, ◌++◌, length, map, slice_index, Contains}
 use Rattle.std.specs.List.{count_by, sum_by}
 use Rattle.bx_map.specs.declared.cell.Cell.{Cell}
 use Rattle.bx_map.specs.Cells.{CellNet, cell_at, operands_of, renumbered}
@@ -33,20 +33,11 @@ stay_of net = staying net.cells (length net.cells) net.outputs
 unfoldable pub dropped : CellNet → CellNet
 dropped net = kept net (stay_of net)
 
--- whether each cell stays
-pub record AreMarks (net : CellNet) (marks : List Bool) : Type 0 where
-  pub whole : length marks ≡ length net.cells
-  pub each : (i : ℕ) → i < length net.cells → slice_index_or marks i false ≡ has (stay_of net) i
-
--- these cells are marked too
-abbrev pub marked : List Bool → List ℕ → List Bool
-marked marks [] = marks
-marked marks (i ∷ is) = marked (slice_set marks i true) is
-
 -- how many values are read by what stays, each output's counted twice: for its node too
 abbrev pub kept_count : CellNet → ℕ
 kept_count net = sum_by (λ i. length (operands_of (cell_at net.cells i))) (stay_of net) + 2 * length net.outputs
 
--- the rank with this number in a list of them
-abbrev pub ranks_of : List ℕ → ℕ → ℕ
-ranks_of ranks i = slice_index ranks i
+-- how many before each cell stay
+pub record AreRanks (n : ℕ) (stay ranks : List ℕ) : Type 0 where
+  pub whole : length ranks ≡ n
+  pub each : (i : ℕ) → i < n → slice_index ranks i ≡ rank stay i

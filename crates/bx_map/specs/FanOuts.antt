@@ -1,19 +1,12 @@
 -- Fan-outs: what reads the value of each cell, and the tree of fans that serves it.
 use Rattle.std.specs.Prelude.{◌≡◌, ◌<◌, ℕ, zero, suc, ◌+◌, ◌/◌, ◌==◌, nat_lt, if◌then◌else◌, List, [], ◌∷◌, ◌++◌, length, map, filter, take, drop, slice_index_or}
 use Rattle.bx_map.specs.declared.cell.Cell.{Cell}
+use Rattle.bx_map.specs.declared.consumer.Consumer.{Consumer}
+use Rattle.bx_map.specs.declared.consumer.Consumer.TheVariants.{Operand, Output}
+use Rattle.bx_map.specs.declared.consumer.Use.{Use}
 use Rattle.std.specs.List.{AllByRecursion}
 use Rattle.bx_forms.specs.Kinds.{slots, operands}
 use Rattle.bx_map.specs.Cells.{CellNet, cell_at, kind_of, operands_of}
-
--- what reads a value: an operand of a cell, both by their numbers, or an output by its port
-pub data Consumer : Type 0 where
-  operand : ℕ → ℕ → Consumer
-  output : ℕ → Consumer
-
--- the value of this cell is read by this consumer
-pub record Use : Type 0 where
-  pub cell : ℕ
-  pub consumer : Consumer
 
 abbrev pub use_of : ℕ → Consumer → Use
 use_of i consumer = record { cell = i; consumer = consumer }
@@ -21,7 +14,7 @@ use_of i consumer = record { cell = i; consumer = consumer }
 -- the uses by the operands of a cell, from one operand on
 abbrev pub operand_uses : ℕ → ℕ → List ℕ → List Use
 operand_uses cell k [] = []
-operand_uses cell k (i ∷ is) = use_of i (operand cell k) ∷ operand_uses cell (suc k) is
+operand_uses cell k (i ∷ is) = use_of i (Operand cell k) ∷ operand_uses cell (suc k) is
 
 -- the uses by cells, from one cell on: operand 0 before operand 1
 abbrev pub cell_uses : ℕ → List Cell → List Use
@@ -31,7 +24,7 @@ cell_uses j (c ∷ cs) = operand_uses j 0 (operands_of c) ++ cell_uses (suc j) c
 -- the uses by outputs, from one port on
 abbrev pub output_uses : ℕ → List ℕ → List Use
 output_uses j [] = []
-output_uses j (i ∷ is) = use_of i (output j) ∷ output_uses (suc j) is
+output_uses j (i ∷ is) = use_of i (Output j) ∷ output_uses (suc j) is
 
 -- operands in the order of the cells, and then outputs in port order
 unfoldable pub uses : CellNet → List Use
@@ -53,13 +46,21 @@ half k = (k + 1) / 2
 -- slot 0 serves the first half and slot 1 the others, each by the same rule. As many halvings as there
 -- are consumers are enough.
 unfoldable pub fan_out : ℕ → List Consumer → FanOut
-fan_out zero cs = direct (slice_index_or cs 0 (output 0))
+fan_out zero cs = direct (slice_index_or cs 0 (Output 0))
 fan_out (suc k) cs =
     if nat_lt 1 (length cs) then fan (fan_out k (take (half (length cs)) cs)) (fan_out k (drop (half (length cs)) cs))
-    else direct (slice_index_or cs 0 (output 0))
+    else direct (slice_index_or cs 0 (Output 0))
+
+abbrev pub tree_of : List Consumer → FanOut
+tree_of cs = fan_out (length cs) cs
 
 unfoldable pub served : CellNet → ℕ → FanOut
-served net i = fan_out (length (consumers net i)) (consumers net i)
+served net i = tree_of (consumers net i)
+
+-- an operand of one of its cells, or one of its outputs
+abbrev pub IsConsumerOf : CellNet → Consumer → Type 0
+IsConsumerOf net (Operand j k) = j < length net.cells
+IsConsumerOf net (Output port) = port < length net.outputs
 
 -- a net in cells of which each is read
 pub record IsCellNet (net : CellNet) : Type 0 where

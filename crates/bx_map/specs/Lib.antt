@@ -1,7 +1,11 @@
 pub mod Cells
 pub mod Walks
+pub mod Marks
 pub mod Folds
 pub mod Drops
 pub mod FanOuts
 pub mod Numbers
+pub mod Sorts
 pub mod Maps
+pub mod Refusals
+pub mod Faults

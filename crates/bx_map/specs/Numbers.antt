@@ -7,7 +7,9 @@ use Rattle.bx_network.specs.Networks.{Network}
 use Rattle.bx_map.specs.declared.cell.Cell.{Cell}
 use Rattle.bx_map.specs.declared.cell.Target.{Target}
 use Rattle.bx_map.specs.Cells.{CellNet, cell_at, kind_of, port_of}
-use Rattle.bx_map.specs.FanOuts.{Consumer, operand, output, FanOut, direct, fan, served}
+use Rattle.bx_map.specs.declared.consumer.Consumer.{Consumer}
+use Rattle.bx_map.specs.declared.consumer.Consumer.TheVariants.{Operand, Output}
+use Rattle.bx_map.specs.FanOuts.{FanOut, direct, fan, served}
 
 abbrev pub edge_to : ℕ → ℕ → Target → Edge
 edge_to source slot target = record { source = source; slot = slot; target = target.node; operand = target.operand }
@@ -26,10 +28,14 @@ unfoldable pub fans : FanOut → List Node
 fans (direct consumer) = []
 fans (fan first second) = fan_node ∷ (fans first ++ fans second)
 
--- the nodes of the first so many cells: each cell, followed by its fans
+-- a cell, followed by its fans
+abbrev pub cell_nodes : CellNet → ℕ → List Node
+cell_nodes net i = cell_node (cell_at net.cells i) ∷ fans (served net i)
+
+-- the nodes of the first so many cells
 unfoldable pub nodes_before : CellNet → ℕ → List Node
 nodes_before net zero = []
-nodes_before net (suc i) = nodes_before net i ++ (cell_node (cell_at net.cells i) ∷ fans (served net i))
+nodes_before net (suc i) = nodes_before net i ++ cell_nodes net i
 
 -- the outputs from one port on, in port order
 abbrev pub output_nodes : ℕ → List ℕ → List Node
@@ -42,8 +48,8 @@ number net i = length (nodes_before net i)
 
 -- where the edge to a consumer ends; the outputs come behind all cells and their fans
 abbrev pub place : CellNet → Consumer → Target
-place net (operand i k) = record { node = number net i; operand = k }
-place net (output j) = record { node = number net (length net.cells) + j; operand = 0 }
+place net (Operand i k) = record { node = number net i; operand = k }
+place net (Output j) = record { node = number net (length net.cells) + j; operand = 0 }
 
 -- where an edge to this tree ends, if its fans are numbered from here on
 abbrev pub entry : CellNet → ℕ → FanOut → Target
@@ -58,11 +64,14 @@ fan_edges net v (fan first second) =
     ∷ edge_to v 1 (entry net (suc v + length (fans first)) second)
     ∷ (fan_edges net (suc v) first ++ fan_edges net (suc v + length (fans first)) second)
 
+-- the edges that leave a cell and its fans
+abbrev pub cell_edges : CellNet → ℕ → List Edge
+cell_edges net i = edge_to (number net i) 0 (entry net (suc (number net i)) (served net i)) ∷ fan_edges net (suc (number net i)) (served net i)
+
 -- the edges that leave the nodes of the first so many cells
 unfoldable pub edges_before : CellNet → ℕ → List Edge
 edges_before net zero = []
-edges_before net (suc i) =
-    edges_before net i ++ (edge_to (number net i) 0 (entry net (suc (number net i)) (served net i)) ∷ fan_edges net (suc (number net i)) (served net i))
+edges_before net (suc i) = edges_before net i ++ cell_edges net i
 
 unfoldable pub numbered : CellNet → Network
 numbered net = record {

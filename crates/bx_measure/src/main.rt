@@ -1,11 +1,14 @@
-//! Runs one stage of the program on one file and says in one line how much came out, so that its time
-//! and its memory can be measured alone. It promises nothing that the crate of the stage doesn't.
+//! Runs one stage of the program on one file and says how much came out, in one line or, of a network, by
+//! all its nodes and edges, so that its time and its memory can be measured alone. It promises nothing that
+//! the crate of the stage doesn't.
 #![tactic(auto)]
 
 ghost use Rattle.bx_lex.specs.Tokens.{HasTokens};
 
+use bx_forms::Kind;
 use bx_lex::{Tokens, read_tokens};
-use bx_logic::Net;
+use bx_logic::{Name, Net};
+use bx_map::{MappedNet, Node, map_net};
 use bx_verilog::{Module, read_module, to_net};
 use std::alloc::AllocError;
 use std::process::ExitCode;
@@ -13,6 +16,9 @@ use std::{env, fs, io};
 
 // The longest text whose tree is read, in bytes.
 const LONGEST: usize = 1_048_576;
+
+// The most nodes of a network that is made. More are counted.
+const MOST_NODES: u32 = 65_536;
 
 // What can be run.
 #[derive(Clone, Copy)]
@@ -23,6 +29,8 @@ enum Stage {
     Tree,
     /// The net of its module, and the values of the outputs.
     Net,
+    /// The mapped network of its module.
+    Map,
 }
 
 impl Stage {
@@ -31,6 +39,7 @@ impl Stage {
             "tokens" => Some(Stage::Tokens),
             "tree" => Some(Stage::Tree),
             "net" => Some(Stage::Net),
+            "map" => Some(Stage::Map),
             _ => None,
         }
     }
@@ -76,19 +85,75 @@ fn values(rt: &HostRuntime, net: &Net) -> Result<Vec<bool>, AllocError> {
     Ok(values)
 }
 
-// Says how many nets a module has, and how many outputs have a value.
-fn say_net(rt: &HostRuntime, module: &Module) -> io::Result<bool> {
-    let net = match to_net(rt.alloc(), module) {
-        Ok(net) => net,
+// The net of a module. Where there is none, that is said.
+fn net_of(rt: &HostRuntime, module: &Module) -> io::Result<Option<Net>> {
+    match to_net(rt.alloc(), module) {
+        Ok(net) => Ok(Some(net)),
         Err(fault) => {
             println!(rt; "{fault:?}")?;
-            return Ok(false);
+            Ok(None)
         }
-    };
+    }
+}
+
+// Says how many nets there are, and how many outputs have a value.
+fn say_net(rt: &HostRuntime, net: &Net) -> io::Result<bool> {
     let nets = net.len();
-    let outputs = values(rt, &net)?.len();
+    let outputs = values(rt, net)?.len();
     println!(rt; "{nets} nets, {outputs} outputs")?;
     Ok(true)
+}
+
+// Says the mapped network of a net, or why there is none.
+fn say_map(rt: &HostRuntime, net: &Net) -> io::Result<bool> {
+    match map_net(rt.alloc(), net, MOST_NODES) {
+        Ok(network) => {
+            say_nodes(rt, net, &network)?;
+            say_edges(rt, &network)?;
+            Ok(true)
+        }
+        Err(fault) => {
+            println!(rt; "{fault:?}")?;
+            Ok(false)
+        }
+    }
+}
+
+// Says each node in a line: its number, its kind, its longest paths, and its name where it is a port.
+fn say_nodes(rt: &HostRuntime, net: &Net, network: &MappedNet) -> io::Result<()> {
+    for v in 0..network.node_count() {
+        let node = network.node(v);
+        let (kind, down, up) = (node.kind, network.down(v), network.up(v));
+        match port_name(net, node) {
+            Some(name) => {
+                let name = String::from_utf8_lossy(rt.alloc(), name.as_slice())?;
+                println!(rt; "node {v} {kind:?} down {down} up {up} {name}")?;
+            }
+            None => println!(rt; "node {v} {kind:?} down {down} up {up}")?,
+        }
+    }
+    Ok(())
+}
+
+// The name of the port that a node stands for.
+fn port_name(net: &Net, node: Node) -> Option<&Name> {
+    match node.kind {
+        Kind::Input if node.port < net.input_count() => Some(net.input_name(node.port)),
+        Kind::Output if node.port < net.output_count() => Some(net.output_name(node.port)),
+        _ => None,
+    }
+}
+
+// Says each edge in a line: its number, and from where to where it leads.
+fn say_edges(rt: &HostRuntime, network: &MappedNet) -> io::Result<()> {
+    for e in 0..network.edge_count() {
+        let edge = network.edge(e);
+        println!(rt;
+            "edge {e} {}.{} {}.{}",
+            edge.source, edge.slot, edge.target, edge.operand
+        )?;
+    }
+    Ok(())
 }
 
 // Runs the stage. Answers whether it ended without a fault.
@@ -106,9 +171,15 @@ fn run(rt: &HostRuntime, stage: Stage, text: &[u8]) -> io::Result<bool> {
     let Some(module) = module_of(rt, text, &tokens)? else {
         return Ok(false);
     };
+    if let Stage::Tree = stage {
+        return say_tree(rt, &module);
+    }
+    let Some(net) = net_of(rt, &module)? else {
+        return Ok(false);
+    };
     match stage {
-        Stage::Net => say_net(rt, &module),
-        Stage::Tree | Stage::Tokens => say_tree(rt, &module),
+        Stage::Map => say_map(rt, &net),
+        _ => say_net(rt, &net),
     }
 }
 

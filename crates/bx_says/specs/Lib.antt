@@ -1,0 +1,5 @@
+pub mod Texts
+pub mod Words
+pub mod Ports
+pub mod Reports
+pub mod Parts

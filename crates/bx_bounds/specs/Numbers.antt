@@ -1,0 +1,14 @@
+-- How many numbers are of a sort.
+use Rattle.std.specs.Prelude.{◌≡◌, ◌↔◌, ℕ, ◌<◌, List, length, Contains}
+use Rattle.bx_logic.specs.Lists.{AreDistinct}
+
+-- exactly `count` numbers are of this sort: a list has each of them once, and no other
+pub record IsCount (IsOne : ℕ → Type 0) (count : ℕ) : Type 0 where
+  pub numbers : List ℕ
+  pub distinct : AreDistinct numbers
+  pub are : (n : ℕ) → IsOne n ↔ Contains numbers n
+  pub size : length numbers ≡ count
+
+-- more than `most` numbers are of this sort
+abbrev pub AreMoreThan : ℕ → (ℕ → Type 0) → Type 0
+AreMoreThan most IsOne = (count : ℕ) × IsCount IsOne count × (most < count)

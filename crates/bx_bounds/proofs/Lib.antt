@@ -1,0 +1,3 @@
+pub mod Pigeons
+pub mod Gaps
+pub mod Meaning

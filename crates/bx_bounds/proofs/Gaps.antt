@@ -1,5 +1,5 @@
 -- Between two rows of a grid lie 2w - 1 borders: their numbers are so many that follow one another.
-use Rattle.std.proofs.Common.{◌≡◌, ℕ, zero, suc, ◌+◌, ◌-◌, ◌*◌, ◌/◌, ◌%◌, ◌<◌, ◌≤◌, ◌⊎◌, Bool, true, false, ◌&&◌, nat_lt, if◌then◌else◌, List, length, Option, Some, None, inl, inr, refl, sym, ap, ◌∙◌, subst, arith}
+use Rattle.std.proofs.Common.{◌≡◌, ℕ, zero, suc, ◌+◌, ◌-◌, ◌*◌, ◌<◌, ◌≤◌, Bool, true, false, List, length, Option, Some, None, inl, inr, refl, ap, subst, arith}
 use Rattle.std.proofs.lemmas.Bool.{cases_lt, cases_eq}
 use Rattle.std.proofs.lemmas.List.FromFn.{length-range_with_len}
 use Rattle.std.specs.List.{range_with_len}
@@ -11,7 +11,7 @@ use Rattle.bx_grid.specs.declared.ratio.Ratio.{Ratio}
 use Rattle.bx_grid.specs.Tiles.{x_of, y_of, is_odd, column_beside, tile_at, below, border, one_less}
 use Rattle.bx_grid.proofs.Neighbours.{below-next_row}
 use Rattle.bx_layout.specs.declared.layout.Layout.{Layout}
-use Rattle.bx_layout.specs.Layouts.{edge_on, leaves}
+use Rattle.bx_layout.specs.Layouts.{edge_on}
 use Rattle.bx_layout.specs.Ways.{IsWay}
 use Rattle.bx_bounds.specs.Refutes.{borders_between}
 
@@ -60,7 +60,7 @@ in-gap r t next side wide under =
     let low : x_of r t < r.w = omega arith in
     let number : y_of r t * r.w + x_of r t ≡ t = omega arith in
     subst (λ (u : ℕ). Member (border u side) (range_with_len (2 * (y_of r t * r.w) + before_first (is_odd (y_of r t))) (2 * r.w - 1))) number
-        (in-range r.w (y_of r t * r.w) (x_of r t) (is_odd (y_of r t)) side column.x low column.is column.within)
+    (in-range r.w (y_of r t * r.w) (x_of r t) (is_odd (y_of r t)) side column.x low column.is column.within)
 
 -- a way from a row to one below it takes a border of each gap between
 pub record TakesBorder (L : Layout) (e row : ℕ) : Type 0 where

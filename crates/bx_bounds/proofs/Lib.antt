@@ -1,3 +1,9 @@
 pub mod Pigeons
+pub mod Tallied
+pub mod Firsts
 pub mod Gaps
 pub mod Meaning
+pub mod Chains
+pub mod BitRows
+pub mod RowSteps
+pub mod Crossings

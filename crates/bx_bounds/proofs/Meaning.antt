@@ -1,5 +1,5 @@
 -- A count proof that holds leaves no legal layout.
-use Rattle.std.proofs.Common.{◌≡◌, ℕ, zero, suc, ◌+◌, ◌-◌, ◌*◌, ◌/◌, ◌%◌, ◌<◌, ◌≤◌, ◌⊎◌, max, List, length, get_or, slice_get, Some, inl, inr, refl, sym, ap, ◌∙◌, subst, arith}
+use Rattle.std.proofs.Common.{◌≡◌, ℕ, suc, ◌+◌, ◌-◌, ◌*◌, ◌%◌, ◌<◌, ◌≤◌, ◌⊎◌, max, get_or, slice_get, Some, inl, inr, sym, ap, ◌∙◌, subst, arith}
 use Rattle.std.proofs.Math.Nat.{le-max_left, le-max_right, mul_comm, mul-le-mul_left}
 use Rattle.std.proofs.lemmas.List.FromFn.{length-range_with_len}
 use Rattle.std.proofs.lemmas.Option.{get_or_from_slice_get}
@@ -12,7 +12,6 @@ use Rattle.bx_grid.specs.declared.count.CountProof.TheVariants.{Late, Crowd, Cut
 use Rattle.bx_grid.specs.Tiles.{y_of}
 use Rattle.bx_network.specs.declared.node.Edge.{Edge}
 use Rattle.bx_network.specs.Networks.{Network, IsNetwork}
-use Rattle.bx_network.specs.Paths.{IsPath}
 use Rattle.bx_network.proofs.Downs.{path-rises, downs-are, ups-are}
 use Rattle.bx_network.proofs.Networks.{kind-within}
 use Rattle.bx_network.proofs.Window.{not-before, not-behind}
@@ -22,9 +21,10 @@ use Rattle.bx_layout.specs.Permits.{PermitTest}
 use Rattle.bx_layout.specs.Legal.{IsLegal}
 use Rattle.bx_layout.proofs.Balances.{edge-forward, edge-within, place-of}
 use Rattle.bx_layout.proofs.Walks.{edge-down, room-above, room-below, in-window, the-way}
-use Rattle.bx_bounds.specs.Numbers.{IsCount, AreMoreThan}
+use Rattle.bx_bounds.specs.Numbers.{IsCount}
 use Rattle.bx_bounds.specs.Ancestors.{IsAncestor, IsAtOrAbove}
 use Rattle.bx_bounds.specs.Windows.{IsEarliestFrom, IsLatestTo}
+use Rattle.bx_bounds.specs.NoLayout.{HasNoLayout}
 use Rattle.bx_bounds.specs.Refutes.{borders_between, IsLate, IsKeptTo, IsCutAt, PassesBelow, Refutes}
 use Rattle.bx_bounds.proofs.Pigeons.{few-by}
 use Rattle.bx_bounds.proofs.Gaps.{gap, length-gap, TakesBorder, way-crosses}
@@ -110,8 +110,8 @@ module _ (N : Network) (permit : PermitTest) (L : Layout) (network : IsNetwork N
   crossing-few : (P : ℕ → Type 0) (row c : ℕ) → IsCount P c → ((e : ℕ) → P e → Crosses row e) → c ≤ borders_between L.ratio
   crossing-few P row c count cross =
       let few = few-by P c (λ e b. edge_on L b ≡ Some e) (gap L.ratio row) count
-          (λ d e b p q. let both : Some d ≡ Some e = sym p ∙ q in cc)
-          (λ e p. let t = takes row e (cross e p) in (t.border_number, t.carries, t.between)) in
+      (λ d e b p q. let both : Some d ≡ Some e = sym p ∙ q in cc)
+      (λ e p. let t = takes row e (cross e p) in (t.border_number, t.carries, t.between)) in
       let size = length-gap L.ratio row in
       omega arith
 
@@ -163,8 +163,12 @@ module _ (N : Network) (permit : PermitTest) (L : Layout) (network : IsNetwork N
           let b = below-it v passes.edge.target passes.below_two in
           record { edge = passes.edge; is = passes.is; above = high passes.edge.source passes.source; below = omega arith }
 
-pub no-layout : (N : Network) (permit : PermitTest) (L : Layout) (proof : CountProof) → IsNetwork N → Refutes N L.ratio proof → IsLegal N permit L → ⊥
-no-layout N permit L (Late v) network late legal = late-none N permit L network legal v late
-no-layout N permit L (Crowd first last) network (ordered, within, (c, count, more)) legal = let few = crowd-few N permit L network legal first last c ordered count in omega arith
-no-layout N permit L (Cut row) network (within, (c, count, more)) legal = let few = cut-few N permit L network legal row c count in omega arith
-no-layout N permit L (Pair u v) network (ordered, within, (c, count, more)) legal = let few = pair-few N permit L network legal u v c count in omega arith
+refuted-none : (N : Network) (permit : PermitTest) (L : Layout) (proof : CountProof) → IsNetwork N → Refutes N L.ratio proof → IsLegal N permit L → ⊥
+refuted-none N permit L (Late v) network late legal = late-none N permit L network legal v late
+refuted-none N permit L (Crowd first last) network (ordered, within, (c, count, more)) legal = let few = crowd-few N permit L network legal first last c ordered count in omega arith
+refuted-none N permit L (Cut row) network (within, (c, count, more)) legal = let few = cut-few N permit L network legal row c count in omega arith
+refuted-none N permit L (Pair u v) network (ordered, within, (c, count, more)) legal = let few = pair-few N permit L network legal u v c count in omega arith
+
+pub no-layout : (N : Network) (ratio : Ratio) (proof : CountProof) → IsNetwork N → Refutes N ratio proof → HasNoLayout N ratio
+no-layout N ratio proof network refutes permit L same legal =
+    refuted-none N permit L proof network (subst (λ (r : Ratio). Refutes N r proof) (sym same) refutes) legal

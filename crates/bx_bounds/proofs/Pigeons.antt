@@ -1,8 +1,6 @@
 -- Counting by lists without repetition: where different numbers are sent to different ones, there are as many
 -- of these, and a list without repetition is no longer than one that has all its numbers.
-use Rattle.std.proofs.Common.{◌≡◌, ◌≢◌, ℕ, suc, ◌<◌, ◌≤◌, List, [], ◌∷◌, length, Contains, inl, inr, refl, sym, ap, ◌∙◌, subst, arith}
-use Rattle.std.proofs.lemmas.Bool.{cases_eq}
-use Rattle.std.specs.List.{AllByRecursion}
+use Rattle.std.proofs.Common.{◌≡◌, ◌≢◌, ℕ, suc, ◌<◌, ◌≤◌, List, [], ◌∷◌, length, inl, inr, refl, sym, ap, ◌∙◌, subst, arith}
 use Rattle.bx_logic.specs.Lists.{AreDistinct}
 use Rattle.bx_logic.proofs.Members.{Member, Contains-from_member, Member-from_contains, AllByRecursion-from_member, member_of_AllByRecursion}
 use Rattle.bx_bounds.specs.Numbers.{IsCount, AreMoreThan}

@@ -3,3 +3,5 @@ pub mod Ancestors
 pub mod Windows
 pub mod Refutes
 pub mod Precedes
+pub mod Rows
+pub mod NoLayout

@@ -1,5 +1,5 @@
 -- The order in which count proofs are looked for: by kind, and those of one kind by their numbers.
-use Rattle.std.specs.Prelude.{◌≡◌, ℕ, ◌<◌, ◌⊎◌}
+use Rattle.std.specs.Prelude.{◌≡◌, ℕ, ◌<◌, ◌⊎◌, Option, Some, None}
 use Rattle.bx_grid.specs.declared.count.CountProof.{CountProof}
 use Rattle.bx_grid.specs.declared.count.CountProof.TheVariants.{Late, Crowd, Cut, Pair}
 
@@ -29,3 +29,8 @@ HasLesserNumbers c d = (first_number c < first_number d) ⊎ ((first_number c �
 
 abbrev pub Precedes : CountProof → CountProof → Type 0
 Precedes c d = (kind_place c < kind_place d) ⊎ ((kind_place c ≡ kind_place d) × HasLesserNumbers c d)
+
+-- the first count proof of this sort, or none where there is no such proof
+abbrev pub IsFirst : (CountProof → Type 0) → Option CountProof → Type 0
+IsFirst IsOne None = (c : CountProof) → ¬ IsOne c
+IsFirst IsOne (Some c) = IsOne c × ((d : CountProof) → Precedes d c → ¬ IsOne d)

@@ -7,3 +7,4 @@ pub mod Chains
 pub mod BitRows
 pub mod RowSteps
 pub mod Crossings
+pub mod PassingNetworks

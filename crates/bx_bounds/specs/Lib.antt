@@ -5,3 +5,4 @@ pub mod Refutes
 pub mod Precedes
 pub mod Rows
 pub mod NoLayout
+pub mod WrittenOut

@@ -15,3 +15,8 @@ mod windows;
 
 pub use counting::{check_count, refute};
 pub use rows::MOST_NODES;
+
+#[cfg(test)]
+mod networks;
+#[cfg(test)]
+mod tests;

@@ -116,7 +116,7 @@ ones-are w n t m =
     let bounds = Member-range_bounds 0 w t among in
     (omega arith, grind arith)
 
-distinct-ascends : (xs : List ℕ) → Ascends ◌<◌ xs → AreDistinct xs
+pub distinct-ascends : (xs : List ℕ) → Ascends ◌<◌ xs → AreDistinct xs
 distinct-ascends [] a = tt
 distinct-ascends (x ∷ xs) a = (AllByRecursion-from_member (λ y. y ≢ x) xs (λ y m same. let less = member_of_AllByRecursion (λ (z : ℕ). x < z) y xs a.0 m in omega arith), distinct-ascends xs a.1)
 

@@ -1,6 +1,6 @@
 -- The first count proof, kind by kind.
-use Rattle.std.proofs.Common.{◌≡◌, ℕ, ◌+◌, ◌<◌, Option, Some, None, inl, inr, refl, subst, arith}
-use Rattle.std.proofs.lemmas.Bool.{cases_lt}
+use Rattle.std.proofs.Common.{◌≡◌, ◌⊎◌, ℕ, ◌+◌, ◌<◌, Option, Some, None, inl, inr, refl, sym, ap, ap₂, subst, arith}
+use Rattle.std.proofs.lemmas.Bool.{cases_lt, cases_order}
 use Rattle.bx_grid.specs.declared.ratio.Ratio.{Ratio}
 use Rattle.bx_grid.specs.declared.count.CountProof.{CountProof}
 use Rattle.bx_grid.specs.declared.count.CountProof.TheVariants.{Late, Crowd, Cut, Pair}
@@ -117,3 +117,67 @@ few-kinds (Pair u v) = omega arith
 pub first-last : (Holds : CountProof → Type 0) (found : Option CountProof) → NoneBelow 3 Holds → IsFirst (OfKind 3 Holds) found → IsFirst Holds found
 first-last Holds None below none = λ c h. none-more Holds 3 below none c (few-kinds c) h
 first-last Holds (Some c) below first = first-then Holds 3 c below first
+
+-- ---- one order
+
+same-kind : (c d : CountProof) → kind_place c ≡ kind_place d → (c ≡ d) ⊎ (HasLesserNumbers c d ⊎ HasLesserNumbers d c)
+same-kind (Late u) (Late v) e = elim (cases_order u v) [
+  | inl same ↦ inl (ap Late same)
+  | inr (inl less) ↦ inr (inl (inl less))
+  | inr (inr less) ↦ inr (inr (inl less))
+]
+same-kind (Late u) (Crowd a b) e = cc
+same-kind (Late u) (Cut a) e = cc
+same-kind (Late u) (Pair a b) e = cc
+same-kind (Crowd a b) (Late v) e = cc
+same-kind (Crowd a b) (Crowd x y) e = elim (cases_order a x) [
+  | inr (inl less) ↦ inr (inl (inl less))
+  | inr (inr less) ↦ inr (inr (inl less))
+  | inl first ↦ elim (cases_order b y) [
+    | inl second ↦ inl (ap₂ Crowd first second)
+    | inr (inl less) ↦ inr (inl (inr (first, less)))
+    | inr (inr less) ↦ inr (inr (inr (sym first, less)))
+  ]
+]
+same-kind (Crowd a b) (Cut x) e = cc
+same-kind (Crowd a b) (Pair x y) e = cc
+same-kind (Cut a) (Late v) e = cc
+same-kind (Cut a) (Crowd x y) e = cc
+same-kind (Cut a) (Cut x) e = elim (cases_order a x) [
+  | inl same ↦ inl (ap Cut same)
+  | inr (inl less) ↦ inr (inl (inl less))
+  | inr (inr less) ↦ inr (inr (inl less))
+]
+same-kind (Cut a) (Pair x y) e = cc
+same-kind (Pair u v) (Late x) e = cc
+same-kind (Pair u v) (Crowd x y) e = cc
+same-kind (Pair u v) (Cut x) e = cc
+same-kind (Pair u v) (Pair x y) e = elim (cases_order u x) [
+  | inr (inl less) ↦ inr (inl (inl less))
+  | inr (inr less) ↦ inr (inr (inl less))
+  | inl first ↦ elim (cases_order v y) [
+    | inl second ↦ inl (ap₂ Pair first second)
+    | inr (inl less) ↦ inr (inl (inr (first, less)))
+    | inr (inr less) ↦ inr (inr (inr (sym first, less)))
+  ]
+]
+
+pub one-precedes : (c d : CountProof) → (c ≡ d) ⊎ (Precedes c d ⊎ Precedes d c)
+one-precedes c d = elim (cases_order (kind_place c) (kind_place d)) [
+  | inr (inl less) ↦ inr (inl (inl less))
+  | inr (inr less) ↦ inr (inr (inl less))
+  | inl kinds ↦ elim (same-kind c d kinds) [
+    | inl same ↦ inl same
+    | inr (inl lesser) ↦ inr (inl (inr (kinds, lesser)))
+    | inr (inr lesser) ↦ inr (inr (inr (sym kinds, lesser)))
+  ]
+]
+
+pub precedes-once : (c d : CountProof) → Precedes c d → Precedes d c → ⊥
+precedes-once c d (inl less) (inl more) = omega arith
+precedes-once c d (inl less) (inr (same, lesser)) = omega arith
+precedes-once c d (inr (same, lesser)) (inl more) = omega arith
+precedes-once c d (inr (same, inl less)) (inr (also, inl more)) = omega arith
+precedes-once c d (inr (same, inl less)) (inr (also, inr (first, more))) = omega arith
+precedes-once c d (inr (same, inr (first, less))) (inr (also, inl more)) = omega arith
+precedes-once c d (inr (same, inr (first, less))) (inr (also, inr (one, more))) = omega arith

@@ -16,12 +16,12 @@ use Rattle.bx_layout.specs.Ways.{IsWay}
 use Rattle.bx_bounds.specs.Refutes.{borders_between}
 
 -- below an even row the border on the far left leads off the grid, and below an odd row that on the far right
-abbrev before_first : Bool → ℕ
+abbrev pub before_first : Bool → ℕ
 before_first true = 0
 before_first false = 1
 
 -- the borders from this row to the next
-pub gap : Ratio → ℕ → List ℕ
+unfoldable pub gap : Ratio → ℕ → List ℕ
 gap r row = range_with_len (2 * (row * r.w) + before_first (is_odd row)) (borders_between r)
 
 pub length-gap : (r : Ratio) (row : ℕ) → length (gap r row) ≡ borders_between r

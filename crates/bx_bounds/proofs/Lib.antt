@@ -2,6 +2,7 @@ pub mod Pigeons
 pub mod Tallied
 pub mod Firsts
 pub mod Gaps
+pub mod Between
 pub mod Meaning
 pub mod Chains
 pub mod BitRows

@@ -13,7 +13,7 @@ use Rattle.bx_grid.specs.Tiles.{y_of}
 use Rattle.bx_network.specs.declared.node.Edge.{Edge}
 use Rattle.bx_network.specs.Networks.{Network, IsNetwork}
 use Rattle.bx_network.proofs.Downs.{path-rises, downs-are, ups-are}
-use Rattle.bx_network.proofs.Networks.{kind-within}
+use Rattle.bx_network.proofs.Networks.{kind-within, goes-forward}
 use Rattle.bx_network.proofs.Window.{not-before, not-behind}
 use Rattle.bx_layout.specs.declared.layout.Layout.{Layout}
 use Rattle.bx_layout.specs.Layouts.{Stands, edge_on}
@@ -172,3 +172,8 @@ refuted-none N permit L (Pair u v) network (ordered, within, (c, count, more)) l
 pub no-layout : (N : Network) (ratio : Ratio) (proof : CountProof) → IsNetwork N → Refutes N ratio proof → HasNoLayout N ratio
 no-layout N ratio proof network refutes permit L same legal =
     refuted-none N permit L proof network (subst (λ (r : Ratio). Refutes N r proof) (sym same) refutes) legal
+
+pub not-own : (N : Network) (v : ℕ) → IsNetwork N → IsAncestor N.edges v v → ⊥
+not-own N v network (n, path) =
+    let rise = path-rises N.edges (λ u. u) (λ i e at. let forward = (goes-forward N network i e at).forward in omega arith) v v (suc n) path in
+    omega arith

@@ -5,11 +5,32 @@
 //! allocation of its own. It promises the list of the steps, with ids that go up by one, hints that name
 //! clauses before the step, and literals that ascend by variable. Whether the steps prove anything is
 //! for `bx_check` to say.
+//!
+//! A log has one text, whose lines are those of LRAT (Cruz-Filipe and others, 2017) without deletions:
+//!
+//! ```text
+//! 46 -1 3 0 11 1 5 0
+//! 47 0 46 45 0
+//! ```
+//!
+//! `write_steps` puts out exactly that text, and `read_steps` reads it and nothing else: where bytes are no
+//! log's text it names the first bad line.
 #![tactic(auto)]
 
+mod fault;
+mod line;
+mod read;
+mod refutation;
 mod steps;
+mod write;
 
+pub mod laws;
+
+pub use fault::StepFault;
+pub use read::read_steps;
+pub use refutation::Refutation;
 pub use steps::{Steps, is_step};
+pub use write::write_steps;
 
 #[cfg(test)]
 mod tests;

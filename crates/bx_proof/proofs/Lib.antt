@@ -1,1 +1,7 @@
 pub mod Logs
+pub mod Closed
+pub mod Numbers
+pub mod StepLines
+pub mod LogGrammar
+pub mod OneLog
+pub mod Putting

@@ -8,7 +8,7 @@ use Rattle.bx_proof.specs.Texts.{closed, step_line}
 -- the size of a signed number, and whether it is positive; 0 is
 pub record IsSigned (l : Literal) : Type 0 where
   pub small : l.var < 2 ^ 31
-  pub zero : l.positive ≡ false → 0 < l.var
+  pub negative : l.positive ≡ false → 0 < l.var
 
 -- bytes begin with a signed number
 pub record IsSignedAt (bytes : List ℕ) (l : Literal) (rest : List ℕ) : Type 0 where
@@ -25,6 +25,6 @@ abbrev pub IsHint : ℕ → Type 0
 IsHint h = (0 < h) × (h < 2 ^ 32)
 
 -- bytes begin with the line of a step of this id, and its end
-pub record IsStepAt (bytes : List ℕ) (id : ℕ) (step : Step) (rest : List ℕ) : Type 0 where
-  pub step : IsStep id step
-  pub spelled : bytes ≡ step_line id step ++ 10 ∷ rest
+pub record IsStepAt (bytes : List ℕ) (id : ℕ) (s : Step) (rest : List ℕ) : Type 0 where
+  pub step : IsStep id s
+  pub spelled : bytes ≡ step_line id s ++ 10 ∷ rest

@@ -15,6 +15,7 @@ pub enum StepFault {
 }
 
 impl From<NoMemory> for StepFault {
+    ghost use Rattle.std.specs.Prelude.{◌≡◌};
     ghost use Rattle.bx_proof.specs.declared.fault.StepFault.TheVariants.{NoMemory};
 
     ghost from_gives = { λ _ fault. fault ≡ NoMemory };

@@ -18,13 +18,12 @@
 #![tactic(auto)]
 
 mod fault;
+pub mod laws;
 mod line;
 mod read;
 mod refutation;
 mod steps;
 mod write;
-
-pub mod laws;
 
 pub use fault::StepFault;
 pub use read::read_steps;

@@ -62,10 +62,7 @@ impl StepLine {
 
 // Reads literals up to the 0 that ends them, and answers what stands behind it, or none where no such
 // thing stands there.
-fn read_literals<'a>(
-    bytes: &'a [u8],
-    literals: &mut Vec<Lit>,
-) -> Result<Option<&'a [u8]>, NoMemory>
+fn read_literals<'a>(bytes: &'a [u8], literals: &mut Vec<Lit>) -> Result<Option<&'a [u8]>, NoMemory>
     ensures { IfOk result (λ found. MatchOption found
         ((ls : List Literal) (rest : List ℕ) → AllByRecursion IsLiteral ls → IsClosedAt literal_text bytes.now ls rest → ⊥)
         (λ rest. AllByRecursion IsLiteral literals.new.items × IsClosedAt literal_text bytes.now literals.new.items rest.now)) }

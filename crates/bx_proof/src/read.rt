@@ -39,7 +39,7 @@ fn read_from(alloc: Global, first: u32, text: &[u8]) -> Result<Steps, StepFault>
     let mut line = StepLine::new(alloc);
     let mut steps = Steps::new(alloc, first);
     let mut rest = text;
-    while steps.is_empty() || !rest.is_empty() {
+    while !rest.is_empty() {
         let count = u64::from(steps.len());
         let Some(behind) = line.read(rest, u64::from(first) + count)? else {
             return Err(StepFault::BadStep(count + 1));

@@ -1,0 +1,27 @@
+use Rattle.std.proofs.Common.{◌≡◌, ◌+◌, ◌<◌, [], length, take, sym, ap, ◌∙◌, arith}
+use Rattle.std.proofs.Math.Seq.{take-length}
+use Rattle.bx_lines.specs.Lines.{ended, text_of}
+use Rattle.bx_desk.proofs.Saying.{says_turn, says_turn_failed, says_as}
+use Rattle.bx_proof.specs.Texts.{step_line, step_lines}
+use Rattle.bx_proof.proofs.StepLines.{step_of, line_at, length-step_lines}
+use Rattle.bx_proof.proofs.write.write_steps.Goals as goal
+
+pub returns-in_err-put_step-clause-puts_out : goal.returns-in_err-put_step-clause-puts_out
+returns-in_err-put_step-clause-puts_out g c =
+    let id : c.from.result + c.from-in-loop-k.result ≡ c.args.steps.now.first + c.loop-k.k = omega (arith, c.from.ensures, c.from-in-loop-k.ensures, c.first.ensures) in
+    let below : c.loop-k.k < length (step_lines c.args.steps.now.first c.args.steps.now.steps) = omega (arith, length-step_lines c.args.steps.now.first c.args.steps.now.steps, c.len-k-end.ensures.count) in
+    says_turn_failed _ _ _ _ _ _ _ _ _ ended (step_lines c.args.steps.now.first c.args.steps.now.steps) c.loop-k.k [] below c.in_err-put_step.was c.from_residual.ensures.0 c.loop-k.invariant
+    (says_as _ _ _ _ _ _ _ (ap ended (ap (λ n. step_line n (step_of c.literals.result.now c.hints.result.now)) id ∙ sym (line_at c.args.steps.now.first c.args.steps.now.steps c.loop-k.k c.literals.result.now c.hints.result.now c.literals.ensures.value c.hints.ensures.value))) c.put_step.ensures)
+
+pub loop-k-preserved : goal.loop-k-preserved
+loop-k-preserved g c =
+    let id : c.from.result + c.from-in-loop-k.result ≡ c.args.steps.now.first + c.loop-k.k = omega (arith, c.from.ensures, c.from-in-loop-k.ensures, c.first.ensures) in
+    let below : c.loop-k.k < length (step_lines c.args.steps.now.first c.args.steps.now.steps) = omega (arith, length-step_lines c.args.steps.now.first c.args.steps.now.steps, c.len-k-end.ensures.count) in
+    says_turn _ _ _ _ _ _ _ ended (step_lines c.args.steps.now.first c.args.steps.now.steps) c.loop-k.k [] below c.in_ok-put_step.was c.loop-k.invariant
+    (says_as _ _ _ _ _ _ _ (ap ended (ap (λ n. step_line n (step_of c.literals.result.now c.hints.result.now)) id ∙ sym (line_at c.args.steps.now.first c.args.steps.now.steps c.loop-k.k c.literals.result.now c.hints.result.now c.literals.ensures.value c.hints.ensures.value))) c.put_step.ensures)
+
+pub returns-clause-puts_out : goal.returns-clause-puts_out
+returns-clause-puts_out g c =
+    let lines = step_lines c.args.steps.now.first c.args.steps.now.steps in
+    let whole : c.loop-k.k ≡ length lines = omega (arith, length-step_lines c.args.steps.now.first c.args.steps.now.steps, c.len-k-end.ensures.count) in
+    says_as _ _ _ _ _ _ _ (ap text_of (ap (λ n. take n lines) whole ∙ take-length lines)) c.loop-k.invariant

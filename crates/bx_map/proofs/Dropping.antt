@@ -173,3 +173,14 @@ module _ (net : CellNet) (h : AreCells net) where
       let b = input-renumbered (rank (stay_of net)) (cell_at net.cells t) port (sym (cell-is j m) ∙ f) in
       let same = h.apart s t port (stay-within s (has-at i l)) (stay-within t (has-at j m)) a b in
       sym (rank-of i l) ∙ (ap (rank (stay_of net)) same ∙ rank-of j m)
+
+  -- an input among the cells that stay is one of all
+  pub dropped-input : (i port : ℕ) → i < length (dropped net).cells → cell_at (dropped net).cells i ≡ Input port →
+      (s : ℕ) × (s < length net.cells) × (cell_at net.cells s ≡ Input port)
+  dropped-input i port l e =
+      let s : ℕ = get_or (stay_of net) i 0 in
+      (s, stay-within s (has-at i l), input-renumbered (rank (stay_of net)) (cell_at net.cells s) port (sym (cell-is i l) ∙ e))
+
+  pub dropped-outputs : length (dropped net).outputs ≡ length net.outputs
+  unfolding dropped
+  dropped-outputs = length-map net.outputs (rank (stay_of net))

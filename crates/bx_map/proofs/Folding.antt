@@ -28,6 +28,7 @@ pub record AreMade (inputs : ℕ) (cells : List Cell) : Type 0 where
   pub inputs_first : inputs ≤ length cells
   pub firsts : (i : ℕ) → i < inputs → cell_at cells i ≡ cell.Input i
   pub ports : (j port : ℕ) → j < length cells → cell_at cells j ≡ cell.Input port → j ≡ port
+  pub few_ports : (j port : ℕ) → j < length cells → cell_at cells j ≡ cell.Input port → port < inputs
 
 -- a value by a cell among so many
 abbrev pub IsWithin : ℕ → Value → Type 0
@@ -81,6 +82,7 @@ made-with inputs cells c h f = record {
   inputs_first = omega (arith, h.inputs_first, length-append cells (c ∷ []));
   firsts = λ i l. cell-old cells c i (omega (arith, h.inputs_first)) ∙ h.firsts i l;
   ports = λ j port l. each-with (λ k d. d ≡ cell.Input port → k ≡ port) cells c (λ k m. h.ports k port m) (λ e. absurd (f.no_input port e)) j l;
+  few_ports = λ j port l. each-with (λ k d. d ≡ cell.Input port → port < inputs) cells c (λ k m. h.few_ports k port m) (λ e. absurd (f.no_input port e)) j l;
 }
 
 from-with : (inputs : ℕ) (cells : List Cell) (c : Cell) → AreMade inputs cells → MayFollow (length cells) c → IsMadeFrom inputs cells (with_cell cells c)
@@ -239,6 +241,7 @@ inputs-made n =
       inputs_first = omega (arith, many);
       firsts = λ i l. input-cell n i l;
       ports = λ j port l e. same-port j port (sym (input-cell n j (omega (arith, many))) ∙ e);
+      few_ports = λ j port l e. let same = same-port j port (sym (input-cell n j (omega (arith, many))) ∙ e) in omega (arith, many);
     }
   where
     same-port : (j port : ℕ) → cell.Input j ≡ cell.Input port → j ≡ port

@@ -24,3 +24,4 @@ pub mod Starts
 pub mod Trees
 pub mod Counts
 pub mod Making
+pub mod Ported

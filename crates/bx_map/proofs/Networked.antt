@@ -212,7 +212,7 @@ input-of (Gate k a b) port h e =
     let m : 0 ≡ operands k = ap (λ (n : Node). operands n.kind) e in
     absurd (omega (arith, m, h))
 
-input-at : (net : CellNet) → IsCellNet net → (v port : ℕ) → IsNodeAt net v (port_node kind.Input port) →
+pub input-at : (net : CellNet) → IsCellNet net → (v port : ℕ) → IsNodeAt net v (port_node kind.Input port) →
     (i : ℕ) × (i < length net.cells) × (v ≡ number net i) × (cell_at net.cells i ≡ Input port)
 input-at net h v port (inl (i, l, at, is)) = (i, l, at, input-of (cell_at net.cells i) port (h.arity i l) is)
 input-at net h v port (inr (inl is)) = let k : kind.Input ≡ kind.Fan = ap (λ (n : Node). n.kind) is in absurd (cc)

@@ -1,18 +1,19 @@
 -- What an input gives is one answer.
-use Rattle.std.proofs.Common.{◌≡◌, ℕ, List, Option, Some, None, sym, ◌∙◌, ap, subst, refl}
+use Rattle.std.proofs.Common.{◌≡◌, List, Option, Some, None, sym, ◌∙◌, ap, subst, refl}
 use Rattle.std.specs.Prelude.{String, option_and_then}
 use Rattle.bx_desk.specs.Desk.{Files}
 use Rattle.bx_syntax.specs.Parts.{ModuleTree}
 use Rattle.bx_verilog.specs.Formulas.{Text}
-use Rattle.bx_verilog.specs.Elaboration.{net_of}
 use Rattle.bx_engine.specs.declared.status.InputFault.{InputFault}
 use Rattle.bx_engine.specs.declared.status.Status.{Status}
 use Rattle.bx_engine.specs.declared.status.Status.TheVariants.{Found, Refused}
-use Rattle.bx_engine.specs.Columns.{column}
-use Rattle.bx_engine.specs.Reports.{report_of}
-use Rattle.bx_engine.specs.Texts.{refusal_text, input_fault_text}
-use Rattle.bx_engine.specs.Runs.{net_word, net_text, IsRefused, IsLaidOut, HasText, IsAnswer, no_command, refused, laid_out}
-use Rattle.bx_engine.proofs.Readings.{refused_once, not_both, one_layout}
+use Rattle.bx_layout.specs.Grids.{FormGrid}
+use Rattle.bx_says.specs.Reports.{report_text}
+use Rattle.bx_engine.specs.Said.{refusal_text, input_fault_text}
+use Rattle.bx_engine.specs.Told.{net_word, net_text, HasText}
+use Rattle.bx_engine.specs.Answers.{IsRefused, IsLaidOut, IsGridOf, layout_of, report, IsAnswer, no_command, refused, laid_out}
+use Rattle.bx_engine.proofs.Readings.{refused_once, not_both, one_module}
+use Rattle.bx_engine.proofs.Layouts.{one-grid}
 
 -- refusals for one fault are one
 one_refusal : (f g : InputFault) → f ≡ g → (Refused f ≡ Refused g) × (refusal_text (input_fault_text f) ≡ refusal_text (input_fault_text g))
@@ -22,9 +23,9 @@ module _ {A : Type 0} (words : List (String A)) (told : Option Files) where
   pub one_answer_of_words : (s t : Status) (x y : Text) → net_word words ≡ None → IsAnswer words told s x → IsAnswer words told t y → (s ≡ t) × (x ≡ y)
   one_answer_of_words _ _ _ _ none (no_command a) (no_command b) = (refl, refl)
   one_answer_of_words _ _ _ _ none (refused net text f named there has is) b = let lost : None ≡ Some net = sym none ∙ named in cc
-  one_answer_of_words _ _ _ _ none (laid_out net text m k named there has is) b = let lost : None ≡ Some net = sym none ∙ named in cc
+  one_answer_of_words _ _ _ _ none (laid_out net text m k named there has is grid) b = let lost : None ≡ Some net = sym none ∙ named in cc
   one_answer_of_words _ _ _ _ none (no_command a) (refused net text f named there has is) = let lost : None ≡ Some net = sym none ∙ named in cc
-  one_answer_of_words _ _ _ _ none (no_command a) (laid_out net text m k named there has is) = let lost : None ≡ Some net = sym none ∙ named in cc
+  one_answer_of_words _ _ _ _ none (no_command a) (laid_out net text m k named there has is grid) = let lost : None ≡ Some net = sym none ∙ named in cc
 
   -- words that name no file have no text
   pub no_text : (text : Text) → net_word words ≡ None → net_text words told ≡ Some text → ⊥
@@ -40,11 +41,12 @@ module _ {A : Type 0} (words : List (String A)) (told : Option Files) where
     one_answer_of_text _ _ _ _ (refused net u f named there has is) (no_command none) = absurd (no_text text none e)
     one_answer_of_text _ _ _ _ (refused net u f named there has is) (refused net' v g named' there' has' is') =
         one_refusal f g (refused_once text f g (of_this (λ t. IsRefused t f) u has is) (of_this (λ t. IsRefused t g) v has' is'))
-    one_answer_of_text _ _ _ _ (refused net u f named there has is) (laid_out net' v m k named' there' has' is') =
-        absurd (not_both text m k f (of_this (λ t. IsLaidOut t m k) v has' is') (of_this (λ t. IsRefused t f) u has is))
-    one_answer_of_text _ _ _ _ (laid_out net u m j named there has is) (no_command none) = absurd (no_text text none e)
-    one_answer_of_text _ _ _ _ (laid_out net u m j named there has is) (refused net' v f named' there' has' is') =
-        absurd (not_both text m j f (of_this (λ t. IsLaidOut t m j) u has is) (of_this (λ t. IsRefused t f) v has' is'))
-    one_answer_of_text _ _ _ _ (laid_out net u m j named there has is) (laid_out net' v n k named' there' has' is') =
-        let same = one_layout text m n j k (of_this (λ t. IsLaidOut t m j) u has is) (of_this (λ t. IsLaidOut t n k) v has' is') in
-        (ap (λ (i : ℕ). Found (column i).ratio) same.1, ap (λ (t : ModuleTree). report_of (net_of t) j) same.0 ∙ ap (report_of (net_of n)) same.1)
+    one_answer_of_text _ _ _ _ (refused net u f named there has is) (laid_out net' v m k named' there' has' is' grid') =
+        absurd (not_both text m f (of_this (λ t. IsLaidOut t m) v has' is') (of_this (λ t. IsRefused t f) u has is))
+    one_answer_of_text _ _ _ _ (laid_out net u m j named there has is grid) (no_command none) = absurd (no_text text none e)
+    one_answer_of_text _ _ _ _ (laid_out net u m j named there has is grid) (refused net' v f named' there' has' is') =
+        absurd (not_both text m f (of_this (λ t. IsLaidOut t m) u has is) (of_this (λ t. IsRefused t f) v has' is'))
+    one_answer_of_text _ _ _ _ (laid_out net u m j named there has is grid) (laid_out net' v n k named' there' has' is' grid') =
+        let same = one_module text m n (of_this (λ t. IsLaidOut t m) u has is) (of_this (λ t. IsLaidOut t n) v has' is') in
+        let grids : j ≡ k = one-grid n j k (subst (λ (t : ModuleTree). IsGridOf t j) same grid) grid' in
+        (ap (λ (t : ModuleTree). Found (layout_of t).ratio) same, ap (λ (t : ModuleTree). report_text (report t j)) same ∙ ap (λ (g : FormGrid). report_text (report n g)) grids)

@@ -1,28 +1,41 @@
--- The column of k inversions is sound, and its output tile reads the value of its input tile, negated
--- k times. Each tile but the first takes, and each but the last sends, on the side that its row has.
-use Rattle.std.proofs.Common.{◌≡◌, ℕ, zero, suc, ◌+◌, ◌*◌, ◌<◌, ◌≤◌, Bool, true, false, not, List, [], ◌∷◌, length, get_or, Some, None, refl, sym, ◌∙◌, ap, subst, arith, inl, inr}
-use Rattle.std.specs.Prelude.{Option, if◌then◌else◌, nat_le, ◌==◌, ◌⊎◌, option_map, IsTrue, IsSome}
-use Rattle.std.proofs.lemmas.Bool.{cases_lt, cases_eq, ne_eqb, le-leb, lt-leb, lt-ltb}
-use Rattle.std.proofs.lemmas.List.FromFn.{get_or-map-range_with_len, length-map-range_with_len}
+-- The column of a chain is a legal layout: each edge leaves the tile of its number on the side of the next row,
+-- and enters the tile below.
+use Rattle.std.proofs.Common.{◌≡◌, ℕ, zero, suc, ◌+◌, ◌*◌, ◌/◌, ◌%◌, ◌<◌, ◌≤◌, Bool, true, false, not, length, Some, None, inl, inr, refl, sym, ◌∙◌, ap, ap₂, subst, arith}
+use Rattle.std.specs.Prelude.{Option, if◌then◌else◌, ◌==◌, ◌&&◌, nat_lt, ◌⊎◌, ◌≢◌, option_map, option_and_then, map}
+use Rattle.std.specs.List.{slice_get, range_with_len}
+use Rattle.std.proofs.lemmas.Bool.{cases_lt, cases_eq, ne_eqb, eq-eqb, lt-ltb, le-ltb, eqb-true, ltb-true}
 use Rattle.std.proofs.lemmas.List.{get_or_past}
-use Rattle.bx_logic.specs.Op.{first_value}
-use Rattle.bx_grid.specs.declared.ratio.Ratio.{Ratio}
-use Rattle.bx_forms.specs.declared.kind.Kind.TheVariants.{Input, Output, Not}
+use Rattle.std.proofs.lemmas.List.FromFn.{length-range_with_len, get_or-range_with_len, get_or-map-range_with_len, length-map-range_with_len}
+use Rattle.bx_forms.specs.declared.kind.Kind.{Kind}
+use Rattle.bx_forms.specs.declared.kind.Kind.TheVariants.{Input, Output}
 use Rattle.bx_forms.specs.declared.side.Side.{Side}
 use Rattle.bx_forms.specs.declared.side.Side.TheVariants.{Left, Right}
-use Rattle.bx_forms.specs.declared.table.Shape.{Shape}
-use Rattle.bx_forms.specs.Forms.{shape_of, shape_node, shape_upper, shape_lower}
-use Rattle.bx_forms.specs.Sides.{opposite, is_used}
-use Rattle.bx_grid.specs.Tiles.{x_of, y_of, is_odd, one_less, column_beside, tile_at, above, below, border, entering}
-use Rattle.bx_engine.specs.Grids.{FormGrid, shape_in, shape_at, takes, sends, sends_from, Holds, IsFormGrid, IsSound, value_of, reads, shape_value, sent, IsBorderValuation}
-use Rattle.bx_engine.specs.Columns.{column, column_form, column_tiles, input_r, output_l, output_r, not_ll, not_rr}
-use Rattle.bx_grid.proofs.Neighbours.{is_odd-suc}
-use Rattle.bx_engine.specs.ChainNetworks.{inverted}
+use Rattle.bx_forms.specs.Sides.{opposite}
+use Rattle.bx_grid.specs.declared.ratio.Ratio.{Ratio}
+use Rattle.bx_grid.specs.Tiles.{IsTile, is_odd, one_less, column_beside, tile_at, above, border}
+use Rattle.bx_grid.proofs.Neighbours.{is_odd-suc, border-side}
+use Rattle.bx_network.specs.declared.node.Edge.{Edge}
+use Rattle.bx_network.specs.Networks.{Network, IsNetwork, HasKind}
+use Rattle.bx_network.proofs.Lists.{got-within, got-slice_get, got-get_or}
+use Rattle.bx_layout.specs.declared.layout.Layout.{Layout}
+use Rattle.bx_layout.specs.Layouts.{Stands, edge_on, enters, leaves, Carries, one_if_is, ways_in, ways_out, held}
+use Rattle.bx_layout.specs.Legal.{IsPlaced, StandsAtItsEnd, IsBalanced, IsLegal}
+use Rattle.bx_layout.specs.Permits.{all_forms}
+use Rattle.bx_layout.proofs.Walks.{stays-on-grid}
+use Rattle.bx_engine.specs.Chains.{IsChain}
+use Rattle.bx_engine.specs.Columns.{side_down, edge_down, column_of, column}
+use Rattle.bx_engine.proofs.Chains.{two-nodes, input-first, output-last, source-is, target-is, edge-count}
+
+-- ---- the tiles of one column
 
 -- the side on which an odd row goes on, and an even one
-abbrev pub way : Bool → Side
+abbrev way : Bool → Side
 way true = Left
 way false = Right
+
+way-is : (t : ℕ) (b : Bool) → is_odd t ≡ b → side_down t ≡ way b
+way-is t true e = rw e refl
+way-is t false e = rw e refl
 
 opposite-way : (b : Bool) → opposite (way (not b)) ≡ way b
 opposite-way true = refl
@@ -35,270 +48,268 @@ cases_side true Right = inr refl
 cases_side false Left = inr refl
 cases_side false Right = inl refl
 
--- where the tiles of one column stand
-
-abbrev pub ratio : ℕ → Ratio
-ratio k = record { w = 1; h = k + 2 }
-
-x_of-column : (k t : ℕ) → x_of (ratio k) t ≡ 0
-x_of-column k t = omega arith
-
-pub y_of-column : (k t : ℕ) → y_of (ratio k) t ≡ t
-y_of-column k t = omega arith
+abbrev ratio : ℕ → Ratio
+ratio n = record { w = 1; h = n }
 
 beside-way : (r : Ratio) (b : Bool) (y : Option ℕ) → tile_at r (column_beside b (way b) 0) y ≡ tile_at r (Some 0) y
 beside-way r true y = refl
 beside-way r false y = refl
 
-beside-other : (k : ℕ) (b : Bool) (y : Option ℕ) → tile_at (ratio k) (column_beside b (opposite (way b)) 0) y ≡ None
-beside-other k true None = refl
-beside-other k true (Some y) = refl
-beside-other k false None = refl
-beside-other k false (Some y) = refl
+beside-other : (n : ℕ) (b : Bool) (y : Option ℕ) → tile_at (ratio n) (column_beside b (opposite (way b)) 0) y ≡ None
+beside-other n true None = refl
+beside-other n true (Some y) = refl
+beside-other n false None = refl
+beside-other n false (Some y) = refl
 
-tile_at-column : (k y : ℕ) → y < k + 2 → tile_at (ratio k) (Some 0) (Some y) ≡ Some y
-tile_at-column k y h =
-    let e : y * 1 + 0 ≡ y = omega arith in
-    rw (lt-ltb y (k + 2) h) (ap Some e)
+above-column : (n t : ℕ) (side : Side) → above (ratio n) t side ≡ tile_at (ratio n) (column_beside (is_odd t) side 0) (one_less t)
+above-column n t side =
+    let x : t % 1 ≡ 0 = omega arith in
+    let y : t / 1 ≡ t = omega arith in
+    rw (x, y) refl
 
-above-column : (k t : ℕ) (side : Side) → above (ratio k) t side ≡ tile_at (ratio k) (column_beside (is_odd t) side 0) (one_less t)
-above-column k t side = rw (x_of-column k t, y_of-column k t)
+above-first : (n : ℕ) (side : Side) → above (ratio n) 0 side ≡ None
+above-first n Left = refl
+above-first n Right = refl
 
-below-column : (k t : ℕ) (side : Side) → below (ratio k) t side ≡ tile_at (ratio k) (column_beside (is_odd t) side 0) (Some (t + 1))
-below-column k t side = rw (x_of-column k t, y_of-column k t)
+above-way : (n t : ℕ) → t < n → above (ratio n) (suc t) (way (is_odd (suc t))) ≡ Some t
+above-way n t h =
+    let e : t * 1 + 0 ≡ t = omega arith in
+    above-column n (suc t) (way (is_odd (suc t))) ∙ beside-way (ratio n) (is_odd (suc t)) (Some t) ∙ rw (lt-ltb t n h) (ap Some e)
 
-above-way : (k t : ℕ) → t + 1 < k + 2 → above (ratio k) (suc t) (way (is_odd (suc t))) ≡ Some t
-above-way k t h = above-column k (suc t) (way (is_odd (suc t))) ∙ beside-way (ratio k) (is_odd (suc t)) (Some t) ∙ tile_at-column k t (omega arith)
+above-other : (n t : ℕ) → above (ratio n) t (opposite (way (is_odd t))) ≡ None
+above-other n t = above-column n t (opposite (way (is_odd t))) ∙ beside-other n (is_odd t) (one_less t)
 
-above-other : (k t : ℕ) → above (ratio k) t (opposite (way (is_odd t))) ≡ None
-above-other k t = above-column k t (opposite (way (is_odd t))) ∙ beside-other k (is_odd t) (one_less t)
+-- ---- what borders carry
 
-below-way : (k t : ℕ) → t + 1 < k + 2 → below (ratio k) t (way (is_odd t)) ≡ Some (t + 1)
-below-way k t h = below-column k t (way (is_odd t)) ∙ beside-way (ratio k) (is_odd t) (Some (t + 1)) ∙ tile_at-column k (t + 1) h
+half-of : (t : ℕ) (side : Side) → border t side / 2 ≡ t
+half-of t Left = omega arith
+half-of t Right = omega arith
 
--- which forms stand there
+and-false : (p q : Bool) → q ≡ false → (p && q) ≡ false
+and-false true q e = e
+and-false false q e = refl
 
-abbrev inner_form : Bool → ℕ
-inner_form odd = if odd then not_ll else not_rr
+-- a border carries the edge of its tile, or none
+edge-says : (n b e : ℕ) (p q : Bool) → (if p && q then Some (b / 2) else None) ≡ Some e → (p ≡ true) × (q ≡ true) × (b / 2 ≡ e)
+edge-says n b e true true h = (refl, refl, (let same : Some (b / 2) ≡ Some e = h in cc))
+edge-says n b e true false h = cc
+edge-says n b e false q h = cc
 
-abbrev last_form : Bool → ℕ
-last_form odd = if odd then output_l else output_r
+module _ (n : ℕ) where
+  abbrev L : Layout
+  L = column_of n
 
-shape_at-column : (k t : ℕ) → t < k + 2 → shape_at (column k) t ≡ shape_of (column_form k t)
-shape_at-column k t h = ap shape_in (get_or-map-range_with_len (λ y. Some (column_form k y)) 0 (k + 2) t t None h (omega arith))
-
-shape-first : (k : ℕ) → shape_at (column k) 0 ≡ shape_of input_r
-shape-first k = shape_at-column k 0 (omega arith)
-
-shape-inner : (k t : ℕ) → 0 < t → t ≤ k → shape_at (column k) t ≡ shape_of (inner_form (is_odd t))
-shape-inner k t h l =
-    let e : column_form k t ≡ inner_form (is_odd t) = rw (ne_eqb t 0 (λ q. omega arith), le-leb t k l) in
-    shape_at-column k t (omega arith) ∙ ap shape_of e
-
-shape-last : (k t : ℕ) → t ≡ k + 1 → shape_at (column k) t ≡ shape_of (last_form (is_odd t))
-shape-last k t h =
-    let e : column_form k t ≡ last_form (is_odd t) = rw (ne_eqb t 0 (λ q. omega arith), lt-leb t k (omega arith)) in
-    shape_at-column k t (omega arith) ∙ ap shape_of e
-
--- what they use
-
-abbrev shape_takes : Option Shape → Side → Bool
-shape_takes shape side = is_used (shape_upper shape) side
-
-abbrev shape_sends : Option Shape → Side → Bool
-shape_sends shape side = is_used (shape_lower shape) side
-
-abbrev shape_takes_at : Side → Option Shape → Bool
-shape_takes_at side shape = shape_takes shape side
-
-abbrev shape_sends_at : Side → Option Shape → Bool
-shape_sends_at side shape = shape_sends shape side
-
-inner-uses : (b : Bool) → let s : Option Shape = shape_of (inner_form b) in
-    (shape_takes s (way b) ≡ true) × (shape_takes s (opposite (way b)) ≡ false) × (shape_sends s (way b) ≡ true) × (shape_sends s (opposite (way b)) ≡ false) × (shape_node s ≡ Some Not)
-inner-uses true = (refl, refl, refl, refl, refl)
-inner-uses false = (refl, refl, refl, refl, refl)
-
-last-uses : (b : Bool) → let s : Option Shape = shape_of (last_form b) in
-    (shape_takes s (way b) ≡ true) × (shape_takes s (opposite (way b)) ≡ false) × (shape_sends s (way b) ≡ false) × (shape_sends s (opposite (way b)) ≡ false) × (shape_node s ≡ Some Output)
-last-uses true = (refl, refl, refl, refl, refl)
-last-uses false = (refl, refl, refl, refl, refl)
-
-takes-first : (k : ℕ) (side : Side) → takes (column k) 0 side ≡ false
-takes-first k Left = ap (shape_takes_at Left) (shape-first k)
-takes-first k Right = ap (shape_takes_at Right) (shape-first k)
-
-takes-way : (k t : ℕ) → 0 < t → t < k + 2 → takes (column k) t (way (is_odd t)) ≡ true
-takes-way k t p h = elim (cases_lt k t) [
-  | inl l ↦ ap (shape_takes_at (way (is_odd t))) (shape-last k t (omega arith)) ∙ (last-uses (is_odd t)).0
-  | inr l ↦ ap (shape_takes_at (way (is_odd t))) (shape-inner k t p l) ∙ (inner-uses (is_odd t)).0
-]
-
-takes-other : (k t : ℕ) → 0 < t → t < k + 2 → takes (column k) t (opposite (way (is_odd t))) ≡ false
-takes-other k t p h = elim (cases_lt k t) [
-  | inl l ↦ ap (shape_takes_at (opposite (way (is_odd t)))) (shape-last k t (omega arith)) ∙ (last-uses (is_odd t)).1
-  | inr l ↦ ap (shape_takes_at (opposite (way (is_odd t)))) (shape-inner k t p l) ∙ (inner-uses (is_odd t)).1
-]
-
-sends-way : (k t : ℕ) → t ≤ k → sends (column k) t (way (is_odd t)) ≡ true
-sends-way k zero h = ap (shape_sends_at Right) (shape-first k)
-sends-way k (suc t) h = ap (shape_sends_at (way (is_odd (suc t)))) (shape-inner k (suc t) (omega arith) h) ∙ (inner-uses (is_odd (suc t))).2
-
-sends-other : (k t : ℕ) → t ≤ k → sends (column k) t (opposite (way (is_odd t))) ≡ false
-sends-other k zero h = ap (shape_sends_at Left) (shape-first k)
-sends-other k (suc t) h = ap (shape_sends_at (opposite (way (is_odd (suc t))))) (shape-inner k (suc t) (omega arith) h) ∙ (inner-uses (is_odd (suc t))).3
-
-sends-last : (k t : ℕ) (side : Side) → t ≡ k + 1 → sends (column k) t side ≡ false
-sends-last k t side h = ap (shape_sends_at side) (shape-last k t h) ∙ elim (cases_side (is_odd t) side) [
-  | inl e ↦ ap (shape_sends (shape_of (last_form (is_odd t)))) e ∙ (last-uses (is_odd t)).2
-  | inr e ↦ ap (shape_sends (shape_of (last_form (is_odd t)))) e ∙ (last-uses (is_odd t)).3
-]
-
-pub holds-first : (k : ℕ) → Holds (column k) 0 Input
-holds-first k = ap shape_node (shape-first k)
-
-holds-inner : (k t : ℕ) → 0 < t → t ≤ k → Holds (column k) t Not
-holds-inner k t p l = ap shape_node (shape-inner k t p l) ∙ (inner-uses (is_odd t)).4
-
-pub holds-last : (k t : ℕ) → t ≡ k + 1 → Holds (column k) t Output
-holds-last k t h = ap shape_node (shape-last k t h) ∙ (last-uses (is_odd t)).4
-
--- a tile holds an input form only where it is the first, and an output form only where it is the last
-
-pub input-only : (k t : ℕ) → t < k + 2 → Holds (column k) t Input → t ≡ 0
-input-only k t h i = elim (cases_eq t 0) [
-  | inl e ↦ e
-  | inr ne ↦ elim (cases_lt k t) [
-    | inl l ↦ let o : Holds (column k) t Output = holds-last k t (omega arith) in cc
-    | inr l ↦ let n : Holds (column k) t Not = holds-inner k t (omega arith) l in cc
+  edge_on-column : (b : ℕ) → edge_on L b ≡ edge_down n b
+  edge_on-column b = elim (cases_lt b (2 * n)) [
+    | inl low ↦ get_or-map-range_with_len (edge_down n) 0 (2 * n) b b None low (omega arith)
+    | inr past ↦
+        get_or_past (map (edge_down n) (range_with_len 0 (2 * n))) b None (omega (arith, length-map-range_with_len (edge_down n) 0 (2 * n)))
+        ∙ sym (rw (and-false (b == border (b / 2) (side_down (b / 2))) (nat_lt (b / 2 + 1) n) (le-ltb (b / 2 + 1) n (omega arith))) refl)
   ]
-]
 
-pub output-only : (k t : ℕ) → t < k + 2 → Holds (column k) t Output → t ≡ k + 1
-output-only k t h o = elim (cases_eq t 0) [
-  | inl e ↦ let i : Holds (column k) t Input = subst (λ (n : ℕ). Holds (column k) n Input) (sym e) (holds-first k) in cc
-  | inr ne ↦ elim (cases_lt k t) [
-    | inl l ↦ omega arith
-    | inr l ↦ let n : Holds (column k) t Not = holds-inner k t (omega arith) l in cc
-  ]
-]
+  leaves-says : (t : ℕ) (side : Side) (e : ℕ) → leaves L t side ≡ Some e → (t ≡ e) × (e + 1 < n)
+  leaves-says t side e h =
+      let b : ℕ = border t side in
+      let says = edge-says n b e (b == border (b / 2) (side_down (b / 2))) (nat_lt (b / 2 + 1) n) (sym (edge_on-column b) ∙ h) in
+      let half = half-of t side in
+      let low = ltb-true (b / 2 + 1) n says.1 in
+      let same = says.2 in
+      (omega arith, omega arith)
 
-meets-column : (k t : ℕ) (side : Side) → t < k + 2 → takes (column k) t side ≡ sends_from (column k) (above (ratio k) t side) (opposite side)
-meets-column k zero side h =
-    let none : above (ratio k) 0 side ≡ None = elim side as (λ s. above (ratio k) 0 s ≡ None) [ Left ↦ refl | Right ↦ refl ] in
-    takes-first k side ∙ ap (λ u. sends_from (column k) u (opposite side)) (sym none)
-meets-column k (suc t) side h = elim (cases_side (is_odd (suc t)) side) [
-  | inl e ↦ rw e (takes-way k (suc t) (omega arith) h
-      ∙ sym (ap (λ u. sends_from (column k) u (opposite (way (is_odd (suc t))))) (above-way k t (omega arith))
-      ∙ ap (λ b. sends (column k) t (opposite (way b))) (is_odd-suc t)
-      ∙ ap (sends (column k) t) (opposite-way (is_odd t))
-      ∙ sends-way k t (omega arith)))
-  | inr e ↦ rw e (takes-other k (suc t) (omega arith) h
-      ∙ sym (ap (λ u. sends_from (column k) u (opposite (opposite (way (is_odd (suc t)))))) (above-other k (suc t))))
-]
+  leaves-down : (t : ℕ) → t + 1 < n → leaves L t (side_down t) ≡ Some t
+  leaves-down t h =
+      let half = half-of t (side_down t) in
+      edge_on-column (border t (side_down t))
+      ∙ rw (half, eq-eqb (border t (side_down t)) (border t (side_down t)) refl, lt-ltb (t + 1) n h) refl
 
-stays-column : (k t : ℕ) (side : Side) → t < k + 2 → IsTrue (sends (column k) t side) → IsSome (below (ratio k) t side)
-stays-column k t side h s = elim (cases_lt k t) [
-  | inl l ↦ let n : sends (column k) t side ≡ false = sends-last k t side (omega arith) in cc
-  | inr l ↦ elim (cases_side (is_odd t) side) [
-    | inl e ↦ rw (e, below-way k t (omega arith))
-    | inr e ↦ let n : sends (column k) t side ≡ false = ap (sends (column k) t) e ∙ sends-other k t l in cc
-  ]
-]
+  enters-first : (side : Side) → enters L 0 side ≡ None
+  enters-first side = ap (λ (o : Option ℕ). option_and_then (edge_on L) (option_map (λ u. border u (opposite side)) o)) (above-first n side)
 
-at-first : (k t : ℕ) → t ≡ 0 → Holds (column k) t Input
-at-first k t e = subst (λ (n : ℕ). Holds (column k) n Input) (sym e) (holds-first k)
+  enters-down : (t : ℕ) → suc t < n → enters L (suc t) (way (is_odd (suc t))) ≡ leaves L t (side_down t)
+  enters-down t h =
+      ap (λ (o : Option ℕ). option_and_then (edge_on L) (option_map (λ u. border u (opposite (way (is_odd (suc t))))) o)) (above-way n t (omega arith))
+      ∙ ap (λ (side : Side). leaves L t side) (ap (λ (b : Bool). opposite (way b)) (is_odd-suc t) ∙ opposite-way (is_odd t) ∙ sym (way-is t (is_odd t) refl))
 
-pub column-sound : (k : ℕ) → IsSound (column k)
-column-sound k = record {
-  wide = omega arith;
-  high = omega arith;
-  meets = λ t side h. meets-column k t side (omega arith);
-  stays = λ t side h s. stays-column k t side (omega arith) s;
-  inputs = λ t h i. y_of-column k t ∙ input-only k t (omega arith) i;
-  outputs = λ t h o. let e = output-only k t (omega arith) o in let y = y_of-column k t in omega arith;
-  first = λ t h e. inr (at-first k t (sym (y_of-column k t) ∙ e));
-  last = λ t h e. let y = y_of-column k t in inr (holds-last k t (omega arith));
-}
+  enters-other : (t : ℕ) → enters L t (opposite (way (is_odd t))) ≡ None
+  enters-other t = ap (λ (o : Option ℕ). option_and_then (edge_on L) (option_map (λ u. border u (opposite (opposite (way (is_odd t))))) o)) (above-other n t)
 
--- what a tile reads, and what goes out of it
-
-reads-way : (g : FormGrid) (bs : List Bool) (t : ℕ) (b : Bool) → takes g t (way b) ≡ true → takes g t (opposite (way b)) ≡ false →
-    reads g bs t ≡ value_of bs (entering g.ratio t (way b)) ∷ []
-reads-way g bs t true on off = rw (on, off)
-reads-way g bs t false on off = rw (on, off)
-
-reads-column : (k t : ℕ) (bs : List Bool) → suc t < k + 2 → reads (column k) bs (suc t) ≡ get_or bs (border t (way (is_odd t))) false ∷ []
-reads-column k t bs h =
-    reads-way (column k) bs (suc t) (is_odd (suc t)) (takes-way k (suc t) (omega arith) h) (takes-other k (suc t) (omega arith) h)
-    ∙ ap (λ u. value_of bs (option_map (λ v. border v (opposite (way (is_odd (suc t))))) u) ∷ []) (above-way k t (omega arith))
-    ∙ ap (λ b. get_or bs (border t (opposite (way b))) false ∷ []) (is_odd-suc t)
-    ∙ ap (λ side. get_or bs (border t side) false ∷ []) (opposite-way (is_odd t))
-
-value-first : (given : Bool) (reads : List Bool) → shape_value (shape_of input_r) given reads Right ≡ given
-value-first given reads = refl
-
-value-inner : (b : Bool) (given : Bool) (reads : List Bool) → shape_value (shape_of (inner_form b)) given reads (way b) ≡ not (first_value reads)
-value-inner true given reads = refl
-value-inner false given reads = refl
-
-sent-way : (k t : ℕ) (given : ℕ → Bool) (bs : List Bool) → t ≤ k →
-    sent (column k) given bs t (way (is_odd t)) ≡ shape_value (shape_at (column k) t) (given t) (reads (column k) bs t) (way (is_odd t))
-sent-way k t given bs h =
-    ap (λ b. if b then shape_value (shape_at (column k) t) (given t) (reads (column k) bs t) (way (is_odd t)) else false) (sends-way k t h)
-
--- the value that goes out of row t
-border-value : (k : ℕ) (given : ℕ → Bool) (bs : List Bool) → IsBorderValuation (column k) given bs → (t : ℕ) → t ≤ k →
-    get_or bs (border t (way (is_odd t))) false ≡ inverted t (given 0)
-border-value k given bs v zero h =
-    v.each 0 Right (omega arith)
-    ∙ sent-way k 0 given bs h
-    ∙ ap (λ shape. shape_value shape (given 0) (reads (column k) bs 0) Right) (shape-first k)
-border-value k given bs v (suc t) h =
-    v.each (suc t) (way (is_odd (suc t))) (omega arith)
-    ∙ sent-way k (suc t) given bs h
-    ∙ ap (λ shape. shape_value shape (given (suc t)) (reads (column k) bs (suc t)) (way (is_odd (suc t)))) (shape-inner k (suc t) (omega arith) h)
-    ∙ value-inner (is_odd (suc t)) (given (suc t)) (reads (column k) bs (suc t))
-    ∙ ap (λ values. not (first_value values)) (reads-column k t bs (omega arith))
-    ∙ ap not (border-value k given bs v t (omega arith))
-
-pub output-value : (k t : ℕ) (given : ℕ → Bool) (bs : List Bool) → t ≡ k + 1 → IsBorderValuation (column k) given bs →
-    first_value (reads (column k) bs t) ≡ inverted k (given 0)
-output-value k t given bs e v =
-    let last : t ≡ suc k = omega arith in
-    ap (λ n. first_value (reads (column k) bs n)) last ∙ ap first_value (reads-column k k bs (omega arith)) ∙ border-value k given bs v k (omega arith)
-
--- it is a form grid
-
-if-less : (b : Bool) (m n : ℕ) → m < 28 → n < 28 → (if b then m else n) < 28
-if-less true m n g h = g
-if-less false m n g h = h
-
-column_form-less : (k y : ℕ) → column_form k y < 28
-column_form-less k y =
-    if-less (y == 0) input_r _ (omega arith) (if-less (nat_le y k) _ _
-    (if-less (is_odd y) not_ll not_rr (omega arith) (omega arith))
-    (if-less (is_odd y) output_l output_r (omega arith) (omega arith)))
-
-length-column : (k : ℕ) → length (column_tiles k) ≡ k + 2
-length-column k = length-map-range_with_len (λ y. Some (column_form k y)) 0 (k + 2)
-
-pub tile-column : (k t : ℕ) → t < k + 2 → get_or (column_tiles k) t None ≡ Some (column_form k t)
-tile-column k t h = get_or-map-range_with_len (λ y. Some (column_form k y)) 0 (k + 2) t t None h (omega arith)
-
-pub column-whole : (k : ℕ) → IsFormGrid (column k)
-column-whole k = record {
-  wide = omega arith;
-  high = omega arith;
-  whole = let e = length-column k in omega arith;
-  forms = λ t form e. elim (cases_lt t (k + 2)) [
-    | inl l ↦
-        let here = tile-column k t l in
-        let same : column_form k t ≡ form = cc in
-        let less = column_form-less k t in
+  enters-says : (t : ℕ) (side : Side) (e : ℕ) → t < n → enters L t side ≡ Some e → t ≡ e + 1
+  enters-says zero side e inside h = let lost : None ≡ Some e = sym (enters-first side) ∙ h in cc
+  enters-says (suc t) side e inside h = elim (cases_side (is_odd (suc t)) side) [
+    | inl down ↦
+        let says = leaves-says t (side_down t) e (sym (enters-down t inside) ∙ subst (λ (s : Side). enters L (suc t) s ≡ Some e) down h) in
+        let same = says.0 in
         omega arith
-    | inr g ↦
-        let none = get_or_past (column_tiles k) t None (let n = length-column k in omega arith) in
-        cc
-  ];
-}
+    | inr other ↦ (let lost : None ≡ Some e = sym (enters-other (suc t)) ∙ subst (λ (s : Side). enters L (suc t) s ≡ Some e) other h in absurd (cc))
+  ]
+
+  -- ---- how many ways lead into a tile and out of it
+
+  none-if : (o : Option ℕ) (e : ℕ) → (o ≡ Some e → ⊥) → one_if_is o e ≡ 0
+  none-if None e h = refl
+  none-if (Some m) e h = rw (ne_eqb m e (λ same. h (ap Some same))) refl
+
+  one-if : (o : Option ℕ) (e : ℕ) → o ≡ Some e → one_if_is o e ≡ 1
+  one-if None e h = cc
+  one-if (Some m) e h = let same : m ≡ e = cc in rw (eq-eqb m e same) refl
+
+  -- of two sides one is that on which a row goes on
+  both-sides : (f : Side → ℕ) (b : Bool) → f Left + f Right ≡ f (way b) + f (opposite (way b))
+  both-sides f true = refl
+  both-sides f false = omega arith
+
+  other-side : (b : Bool) → opposite (way b) ≡ way b → ⊥
+  other-side true e = cc
+  other-side false e = cc
+
+  -- on the other side nothing goes out
+  leaves-other : (t e : ℕ) → leaves L t (opposite (way (is_odd t))) ≡ Some e → ⊥
+  leaves-other t e h =
+      let side : Side = opposite (way (is_odd t)) in
+      let b : ℕ = border t side in
+      let says = edge-says n b e (b == border (b / 2) (side_down (b / 2))) (nat_lt (b / 2 + 1) n) (sym (edge_on-column b) ∙ h) in
+      let at = eqb-true b (border (b / 2) (side_down (b / 2))) says.0 in
+      let half = half-of t side in
+      let here : border t side ≡ border t (side_down t) = at ∙ ap (λ (u : ℕ). border u (side_down u)) half in
+      other-side (is_odd t) ((border-side t t side (side_down t) here).1 ∙ way-is t (is_odd t) refl)
+
+  out-here : (t : ℕ) → t + 1 < n → ways_out L t t ≡ 1
+  out-here t h =
+      both-sides (λ side. one_if_is (leaves L t side) t) (is_odd t)
+      ∙ ap₂ (λ (a b : ℕ). a + b)
+      (one-if (leaves L t (way (is_odd t))) t (ap (leaves L t) (sym (way-is t (is_odd t) refl)) ∙ leaves-down t h))
+      (none-if (leaves L t (opposite (way (is_odd t)))) t (leaves-other t t))
+
+  out-other : (t e : ℕ) → t ≢ e → ways_out L t e ≡ 0
+  out-other t e ne =
+      ap₂ (λ (a b : ℕ). a + b)
+      (none-if (leaves L t Left) e (λ h. ne (leaves-says t Left e h).0))
+      (none-if (leaves L t Right) e (λ h. ne (leaves-says t Right e h).0))
+
+  in-here : (t : ℕ) → suc t < n → ways_in L (suc t) t ≡ 1
+  in-here t h =
+      both-sides (λ side. one_if_is (enters L (suc t) side) t) (is_odd (suc t))
+      ∙ ap₂ (λ (a b : ℕ). a + b)
+      (one-if (enters L (suc t) (way (is_odd (suc t)))) t (enters-down t h ∙ leaves-down t (omega arith)))
+      (none-if (enters L (suc t) (opposite (way (is_odd (suc t))))) t (λ e. let lost : None ≡ Some t = sym (enters-other (suc t)) ∙ e in cc))
+
+  in-other : (t e : ℕ) → t < n → t ≢ e + 1 → ways_in L t e ≡ 0
+  in-other t e inside ne =
+      ap₂ (λ (a b : ℕ). a + b)
+      (none-if (enters L t Left) e (λ h. ne (enters-says t Left e inside h)))
+      (none-if (enters L t Right) e (λ h. ne (enters-says t Right e inside h)))
+
+  -- ---- places
+
+  place-is : (v : ℕ) → v < n → slice_get L.places v ≡ Some v
+  place-is v h =
+      got-slice_get (range_with_len 0 n) v 0 (omega (arith, length-range_with_len 0 n))
+      ∙ ap Some (let e = get_or-range_with_len 0 n v 0 h in omega arith)
+
+  stands-says : (v t : ℕ) → Stands L v t → (v ≡ t) × (t < n)
+  stands-says v t h =
+      let inside = got-within (range_with_len 0 n) v t h in
+      let all = length-range_with_len 0 n in
+      let at = got-get_or (range_with_len 0 n) v t 0 h in
+      let is = get_or-range_with_len 0 n v 0 (omega arith) in
+      (omega arith, omega arith)
+
+  held-here : (v t : ℕ) → v < n → v ≡ t → held L t v ≡ 1
+  held-here v t h same = one-if (slice_get L.places v) t (place-is v h ∙ ap Some same)
+
+  held-other : (v t : ℕ) → v ≢ t → held L t v ≡ 0
+  held-other v t ne = none-if (slice_get L.places v) t (λ h. ne (stands-says v t h).0)
+
+-- ---- legal
+
+module _ (N : Network) (network : IsNetwork N) (chain : IsChain N) where
+  abbrev count : ℕ
+  count = length N.nodes
+
+  -- at the tile of a node, at that of the next one, and at any other
+  sums : (t e : ℕ) → t < count → e + 1 < count →
+      (ways_in (column N) t e + held (column N) t e ≡ ways_out (column N) t e + held (column N) t (e + 1)) × (ways_in (column N) t e + held (column N) t e ≤ 1)
+  sums t e inside low = elim (cases_eq t e) [
+    | inl here ↦
+        let i = in-other count t e inside (λ q. omega arith) in
+        let h = held-here count e t (omega arith) (sym here) in
+        let o = subst (λ (u : ℕ). ways_out (column N) t u ≡ 1) here (out-here count t (omega arith)) in
+        let g = held-other count (e + 1) t (λ q. omega arith) in
+        (omega arith, omega arith)
+    | inr away ↦ elim (cases_eq t (e + 1)) [
+      | inl next ↦
+          let below : suc e ≡ t = omega arith in
+          let i = subst (λ (u : ℕ). ways_in (column N) u e ≡ 1) below (in-here count e (omega arith)) in
+          let h = held-other count e t (λ q. omega arith) in
+          let o = out-other count t e away in
+          let g = held-here count (e + 1) t low (omega arith) in
+          (omega arith, omega arith)
+      | inr far ↦
+          let i = in-other count t e inside far in
+          let h = held-other count e t (λ q. away (sym q)) in
+          let o = out-other count t e away in
+          let g = held-other count (e + 1) t (λ q. far (sym q)) in
+          (omega arith, omega arith)
+    ]
+  ]
+
+  inside-of : (t : ℕ) → IsTile (column N).ratio t → t < count
+  inside-of t h = omega arith
+
+  balanced : IsBalanced N (column N)
+  balanced t e edge inside at =
+      let s = source-is N network chain e edge at in
+      let g = target-is N network chain e edge at in
+      let c = edge-count N network chain in
+      let w = got-within N.edges e edge at in
+      let both = sums t e (inside-of t inside) (omega arith) in
+      record {
+        balanced = subst (λ (u : ℕ). ways_in (column N) t e + held (column N) t u ≡ ways_out (column N) t e + held (column N) t edge.target) (sym s)
+            (subst (λ (u : ℕ). ways_in (column N) t e + held (column N) t e ≡ ways_out (column N) t e + held (column N) t u) (sym g) both.0);
+        once = subst (λ (u : ℕ). ways_in (column N) t e + held (column N) t u ≤ 1) (sym s) both.1;
+      }
+
+  placed : IsPlaced N (column N)
+  placed = record {
+    places = length-range_with_len 0 count;
+    borders = length-map-range_with_len (edge_down count) 0 (2 * count) ∙ (omega arith);
+    edges = λ b e h.
+        let says = edge-says count b e (b == border (b / 2) (side_down (b / 2))) (nat_lt (b / 2 + 1) count) (sym (edge_on-column count b) ∙ h) in
+        let low = ltb-true (b / 2 + 1) count says.1 in
+        let same = says.2 in
+        let c = edge-count N network chain in
+        omega arith;
+    inside = λ v t h. let says = (stands-says count v t h).1 in omega arith;
+    apart = λ u v t h g. let a = (stands-says count u t h).0 in let b = (stands-says count v t g).0 in omega arith;
+  }
+
+  ends : (kind : Kind) (v t : ℕ) → HasKind N v kind → Stands (column N) v t → StandsAtItsEnd kind (column N).ratio t
+  ends Input v t has h = let a = input-first N network chain v has in let b = (stands-says count v t h).0 in omega arith
+  ends Output v t has h = let a = output-last N network chain v has in let b = (stands-says count v t h).0 in omega arith
+  ends kind v t has h = tt
+
+  alone : (v t : ℕ) (side : Side) (e : ℕ) (edge : Edge) → Stands (column N) v t → Carries (column N) t side e → slice_get N.edges e ≡ Some edge → (edge.source ≡ v) ⊎ (edge.target ≡ v)
+  alone v t side e edge stands (inl h) at =
+      let here = stands-says count v t stands in
+      let a = here.0 in
+      let b = enters-says count t side e here.1 h in
+      let g = target-is N network chain e edge at in
+      inr (omega arith)
+  alone v t side e edge stands (inr h) at =
+      let a = (stands-says count v t stands).0 in
+      let b = (leaves-says count t side e h).0 in
+      let s = source-is N network chain e edge at in
+      inl (omega arith)
+
+pub column-legal : (N : Network) → IsNetwork N → IsChain N → length N.nodes ≤ 4194304 → IsLegal N all_forms (column N)
+column-legal N network chain few =
+    let two = two-nodes N network chain in
+    record {
+      grid = record { wide = omega arith; high = omega arith; small = omega arith };
+      placed = placed N network chain;
+      ends = λ v t node at stands. ends N network chain node.kind v t (node, at, refl) stands;
+      stays = stays-on-grid N (column N) network (placed N network chain) (balanced N network chain);
+      balanced = balanced N network chain;
+      alone = λ v t stands side e edge carries at. alone N network chain v t side e edge stands carries at;
+      permitted = λ t form inside has. refl;
+    }

@@ -1,13 +1,11 @@
--- Each text is refused for some fault, or laid out in some way. The walk from a net is told by recursion on
--- what the net costs: each net of the walk costs less than the one before it.
-use Rattle.std.proofs.Common.{◌≡◌, ℕ, zero, suc, ◌<◌, ◌≤◌, ◌⊎◌, inl, inr, List, [], ◌∷◌, length, map, Result, Ok, Err, refl, sym, ◌∙◌, ap, subst, arith}
-use Rattle.std.specs.Prelude.{slice_index}
-use Rattle.std.proofs.lemmas.Bool.{cases_lt}
-use Rattle.bx_logic.specs.declared.op.Op.TheVariants.{Buf, Not}
-use Rattle.bx_logic.specs.declared.driver.Driver.{Driver}
-use Rattle.bx_logic.specs.declared.driver.Driver.TheVariants.{Input, Gate}
-use Rattle.bx_logic.specs.Nets.{Netlist, IsNet, arguments_of, driver_at}
-use Rattle.bx_logic.proofs.Valuations.{cost, cost-is, net-reads_within}
+-- Each text is refused for some fault, or laid out in some way.
+use Rattle.std.proofs.Common.{◌≡◌, ℕ, ◌+◌, ◌⊎◌, inl, inr, [], Option, Some, None, length, Result, Ok, Err, refl}
+use Rattle.std.specs.Prelude.{slice_index_or}
+use Rattle.std.proofs.lemmas.Bool.{cases_lt, cases_eq}
+use Rattle.bx_logic.specs.Nets.{Netlist, output_names}
+use Rattle.bx_network.specs.Networks.{Network, is_output}
+use Rattle.bx_layout.specs.Valuations.{is_input}
+use Rattle.bx_map.specs.Maps.{first_constant, mapped, node_count}
 use Rattle.bx_lex.specs.declared.token.LexFault.{LexFault}
 use Rattle.bx_lex.specs.Tokens.{TokenList, HasTokens, Reads}
 use Rattle.bx_lex.proofs.Readings.{some_reading}
@@ -20,91 +18,51 @@ use Rattle.bx_syntax.proofs.Faults.{tree_or_fault}
 use Rattle.bx_verilog.specs.declared.fault.NetFault.{NetFault}
 use Rattle.bx_verilog.specs.Formulas.{Text}
 use Rattle.bx_verilog.specs.Elaboration.{net_of, Elaborates}
-use Rattle.bx_verilog.proofs.Cyclic.{acyclic-net}
-use Rattle.bx_verilog.proofs.Decisions.{dec_from}
-use Rattle.bx_verilog.proofs.ElaboratedNets.{is_net}
 use Rattle.bx_verilog.proofs.Existence.{meaning}
 use Rattle.bx_engine.specs.declared.status.InputFault.{InputFault}
-use Rattle.bx_engine.specs.declared.status.InputFault.TheVariants.{TooLong, Lex, Read, Net, NotBuilt}
+use Rattle.bx_engine.specs.declared.status.InputFault.TheVariants.{TooLong, Lex, Read, Net, Constant, Nodes, NotBuilt}
 use Rattle.bx_engine.specs.declared.status.Which.TheVariants.{NetFile}
-use Rattle.bx_engine.specs.Chains.{LeadsToInput, input, copy, inversion, IsChain, most_inversions}
-use Rattle.bx_engine.specs.Runs.{IsShort, IsText, IsRefused, IsLaidOut}
-use Rattle.bx_engine.proofs.Chains.{one_count}
-use Rattle.bx_engine.proofs.Modules.{tree-of_text}
-use Rattle.bx_engine.proofs.Walks.{next_cheaper, of_copy, of_inversion}
+use Rattle.bx_engine.specs.Chains.{IsChain, is_not, count_of}
+use Rattle.bx_engine.specs.Answers.{IsShort, IsText, IsGood, IsRefused, IsLaidOut}
 
--- Whether a net is a chain.
-
-module _ (drivers : List Driver) where
-  -- some walk leads from the net to the input
-  abbrev HasWalk : ℕ → Type 0
-  HasWalk n = (k : ℕ) × LeadsToInput drivers n k
-
-  -- none leads from what is no input 0, no copy and no inversion
-  no_walk : (n k : ℕ) (d : Driver) → driver_at drivers n ≡ d → (d ≡ Input 0 → ⊥) → ((m : ℕ) → d ≡ Gate Buf (m ∷ []) → ⊥) → ((m : ℕ) → d ≡ Gate Not (m ∷ []) → ⊥)
-      → LeadsToInput drivers n k → ⊥
-  no_walk n _ d e no_input no_copy no_inversion (input _ f) = no_input (sym e ∙ f)
-  no_walk n _ d e no_input no_copy no_inversion (copy _ m k f w) = no_copy m (sym e ∙ f)
-  no_walk n _ d e no_input no_copy no_inversion (inversion _ m k f w) = no_inversion m (sym e ∙ f)
-
-  by_driver : (n : ℕ) (d : Driver) → driver_at drivers n ≡ d → ((m : ℕ) → arguments_of d ≡ m ∷ [] → Dec (HasWalk m)) → Dec (HasWalk n)
-  by_driver n (Input zero) e next = yes (0, input n e)
-  by_driver n (Gate Buf (m ∷ [])) e next =
-      dec_from (HasWalk m) (HasWalk n) (λ w. (w.0, copy n m w.0 e w.1)) (λ w. (w.0, of_copy drivers n m w.0 e w.1)) (next m refl)
-  by_driver n (Gate Not (m ∷ [])) e next =
-      dec_from (HasWalk m) (HasWalk n) (λ w. (suc w.0, inversion n m w.0 e w.1)) (λ w. let (rest, same, later) = of_inversion drivers n m w.0 e w.1 in (rest, later)) (next m refl)
-  by_driver n d e next = no (λ w. no_walk n w.0 d e (λ x. cc) (λ m x. cc) (λ m x. cc) w.1)
-
-module _ (net : Netlist) (is : IsNet net) where
-  dec_walk : (most n : ℕ) → cost net.drivers n ≤ most → Dec (HasWalk net.drivers n)
-  dec_walk zero n h = let here = cost-is net.drivers is.acyclic (net-reads_within net is) n in absurd (omega arith)
-  dec_walk (suc most) n h =
-      by_driver net.drivers n (driver_at net.drivers n) refl
-      (λ m one. let less = next_cheaper net is n m (driver_at net.drivers n) refl one in dec_walk most m (omega arith))
-
-  abbrev HasChain : Type 0
-  HasChain = (k : ℕ) × IsChain net k
-
-  module _ (name : Text) (output : Text × ℕ) (one_input : net.inputs ≡ name ∷ []) (one_output : net.outputs ≡ output ∷ []) where
-    -- the walk of a chain is one from the output's net
-    chain_walk : (k : ℕ) → IsChain net k → LeadsToInput net.drivers output.1 k
-    chain_walk k h =
-        let from : h.from ≡ output.1 = ap (λ (xs : List (Text × ℕ)). slice_index (map (λ (x : Text × ℕ). x.1) xs) 0) (sym h.one_output ∙ one_output) in
-        subst (λ (n : ℕ). LeadsToInput net.drivers n k) from h.leads
-
-    by_count : (k : ℕ) → LeadsToInput net.drivers output.1 k → (most_inversions < k) ⊎ (k ≤ most_inversions) → Dec HasChain
-    by_count k leads (inl many) = no (λ c.
-        let same = one_count net.drivers output.1 c.0 k (chain_walk c.0 c.1) leads in
-        let few = c.1.few in
-        omega arith)
-    by_count k leads (inr few) =
-        yes (k, record { input = name; one_input = one_input; output = output.0; from = output.1; one_output = one_output; leads = leads; few = few })
-
-    by_walk : Dec (HasWalk net.drivers output.1) → Dec HasChain
-    by_walk (yes w) = by_count w.0 w.1 (cases_lt most_inversions w.0)
-    by_walk (no none) = no (λ c. none (c.0, chain_walk c.0 c.1))
-
-  by_ports : (inputs : List Text) (outputs : List (Text × ℕ)) → net.inputs ≡ inputs → net.outputs ≡ outputs → Dec HasChain
-  by_ports (name ∷ []) (output ∷ []) e f = by_walk name output e f (dec_walk (cost net.drivers output.1) output.1 (omega arith))
-  by_ports inputs outputs e f = no (λ c. let ins = sym e ∙ c.1.one_input in let outs = sym f ∙ c.1.one_output in cc)
-
-  pub dec_chain : Dec HasChain
-  dec_chain = by_ports net.inputs net.outputs refl refl
+-- Whether a network is a chain.
+chain-or-not : (N : Network) → IsChain N ⊎ (IsChain N → ⊥)
+chain-or-not N = elim (cases_eq (count_of is_input N.nodes) 1) [
+  | inr unlike ↦ inr (λ c. unlike c.one_input)
+  | inl inputs ↦ elim (cases_eq (count_of is_output N.nodes) 1) [
+    | inr unlike ↦ inr (λ c. unlike c.one_output)
+    | inl outputs ↦ elim (cases_eq (count_of is_not N.nodes + 2) (length N.nodes)) [
+      | inr unlike ↦ inr (λ c. unlike c.others_invert)
+      | inl others ↦ inl (record { one_input = inputs; one_output = outputs; others_invert = others })
+    ]
+  ]
+]
 
 -- What becomes of a text.
 
 module _ (text : Text) where
   abbrev HasAnswer : Type 0
-  HasAnswer = ((fault : InputFault) × IsRefused text fault) ⊎ ((m : ModuleTree) × (k : ℕ) × IsLaidOut text m k)
+  HasAnswer = ((fault : InputFault) × IsRefused text fault) ⊎ ((m : ModuleTree) × IsLaidOut text m)
 
   module _ (short : IsShort text) where
+    -- an accepted module
+    by_count : (m : ModuleTree) → IsGood text m → first_constant (net_of m) ≡ None → HasAnswer
+    by_count m good none = elim (cases_lt 96 (node_count (net_of m))) [
+      | inl many ↦ inl (Nodes (node_count (net_of m)), (m, good, record { no_constant = none; counted = refl; many = many }))
+      | inr few ↦ elim (chain-or-not (mapped (net_of m))) [
+        | inl chain ↦ inr (m, record { good = good; is_mapped = record { no_constant = none; few = few }; chain = chain })
+        | inr unlike ↦ inl (NotBuilt, (m, good, record { is_mapped = record { no_constant = none; few = few }; no_chain = unlike }))
+      ]
+    ]
+
+    by_constant : (m : ModuleTree) → IsGood text m → (o : Option ℕ) → first_constant (net_of m) ≡ o → HasAnswer
+    by_constant m good None e = by_count m good e
+    by_constant m good (Some port) e = inl (Constant (slice_index_or (output_names (net_of m)) port []), (m, good, record { port = port; first = e; named = refl }))
+
     by_meaning : (m : ModuleTree) → IsText text m → (r : Result Netlist NetFault) → Elaborates m r → HasAnswer
     by_meaning m is_text (Err fault) has = inl (Net fault, (short, (m, is_text, has)))
     by_meaning m is_text (Ok net) (accepted, same) =
-        elim (dec_chain (net_of m) (is_net m (tree-of_text text m short is_text) accepted.0 (acyclic-net m accepted.1))) [
-          | yes c ↦ inr (m, c.0, record { short = short; is_text = is_text; accepted = accepted; chain = c.1 })
-          | no none ↦ inl (NotBuilt, (short, record { tree = m; is_text = is_text; accepted = accepted; no_chain = λ k is. none (k, is) }))
-        ]
+        by_constant m (record { short = short; is_text = is_text; accepted = accepted }) (first_constant (net_of m)) refl
 
     by_tokens : (found : TokenList) → HasTokens text found → ((m : ModuleTree) × IsModule 256 m (terminals_of text found.tokens)) ⊎ ((f : ReadFault) × HasReadFault text found f) → HasAnswer
     by_tokens found tokens (inr (f, has)) = inl (Read f, (short, record { found = found; tokens = tokens; has = has }))

@@ -2,7 +2,7 @@
 use Rattle.std.proofs.Common.{◌≡◌, ℕ, List, [], ◌++◌, Result, Ok, Err, sym, ◌∙◌, subst, refl}
 use Rattle.std.proofs.lemmas.List.{append-nil}
 use Rattle.bx_desk.specs.Desk.{DeskState, Says, PutsFront}
-use Rattle.bx_desk.specs.Pieces.{pending, target_of, PutsUpTo, HandsOn}
+use Rattle.bx_desk.specs.Pieces.{pending, target_of, PutsUpTo, HandsOn, PutsOut}
 use Rattle.bx_desk.specs.declared.desk.Failed.{Failed}
 use Rattle.bx_desk.specs.declared.piece.Piece.{Piece}
 use Rattle.bx_desk.specs.declared.target.Target.{Target}
@@ -11,8 +11,7 @@ use Rattle.bx_desk.proofs.Put.{puts_piece, puts_front}
 use Rattle.bx_engine.specs.declared.status.Status.{Status}
 use Rattle.bx_engine.specs.declared.status.Status.TheVariants.{WriteFault}
 use Rattle.bx_engine.specs.declared.status.Which.TheVariants.{Output as OfOutput}
-use Rattle.bx_engine.specs.Says.{PutsOut}
-use Rattle.bx_engine.specs.Endings.{EndsSaying, done, failed}
+use Rattle.bx_engine.specs.Outcomes.{EndsSaying, done, failed}
 
 -- all of the text was said
 pub says_all : (old new : DeskState) (text : List ℕ) → PutsUpTo Output old new text [] → Says old new text

@@ -1,5 +1,6 @@
 -- A text is refused for one fault, or laid out in one way, and never both.
-use Rattle.std.proofs.Common.{◌≡◌, ℕ, Ok, Err, refl, sym, ◌∙◌, ap, subst, arith}
+use Rattle.std.specs.Prelude.{⊤, slice_index_or}
+use Rattle.std.proofs.Common.{◌≡◌, ℕ, [], Some, None, Ok, Err, refl, sym, ◌∙◌, ap, subst, arith}
 use Rattle.bx_lex.specs.declared.token.LexFault.{LexFault}
 use Rattle.bx_lex.specs.Tokens.{TokenList, HasTokens, HasFault}
 use Rattle.bx_lex.proofs.Readings.{one_reading}
@@ -14,12 +15,12 @@ use Rattle.bx_verilog.specs.declared.fault.NetFault.{NetFault}
 use Rattle.bx_verilog.specs.Formulas.{Text}
 use Rattle.bx_verilog.specs.Faults.{IsAccepted, IsFault}
 use Rattle.bx_verilog.specs.Elaboration.{net_of}
+use Rattle.bx_logic.specs.Nets.{Netlist, output_names}
+use Rattle.bx_map.specs.Maps.{first_constant}
 use Rattle.bx_verilog.proofs.OneMeaning.{one-meaning}
 use Rattle.bx_engine.specs.declared.status.InputFault.{InputFault}
-use Rattle.bx_engine.specs.declared.status.InputFault.TheVariants.{TooLong, Lex, Read, Net, NotBuilt}
-use Rattle.bx_engine.specs.Chains.{IsChain}
-use Rattle.bx_engine.specs.Runs.{IsText, IsUnread, IsNotBuilt, IsRefused, IsLaidOut}
-use Rattle.bx_engine.proofs.Chains.{one_number}
+use Rattle.bx_engine.specs.declared.status.InputFault.TheVariants.{TooLong, Lex, Read, Net, Constant, Nodes, NotBuilt}
+use Rattle.bx_engine.specs.Answers.{IsText, IsUnread, IsGood, IsMapped, IsConstant, HasManyNodes, IsNotBuilt, IsRefused, IsLaidOut}
 
 module _ (text : Text) where
   one_list : (a b : TokenList) → HasTokens text a → HasTokens text b → a ≡ b
@@ -36,7 +37,7 @@ module _ (text : Text) where
       module_once 256 256 m n (terminals_of text a.found.tokens) a.is_module
       (subst (λ (l : TokenList). IsModule 256 n (terminals_of text l.tokens)) (one_list b.found a.found b.tokens a.tokens) b.is_module)
 
-  some_text : (m : ModuleTree) (f : ReadFault) → IsText text m → IsUnread text f → ⊥
+  pub some_text : (m : ModuleTree) (f : ReadFault) → IsText text m → IsUnread text f → ⊥
   some_text m f a b =
       no_fault_of 256 (terminals_of text b.found.tokens) b.found f m b.has
       (subst (λ (l : TokenList). IsModule 256 m (terminals_of text l.tokens)) (one_list a.found b.found a.tokens b.tokens) a.is_module)
@@ -52,6 +53,26 @@ one_fault m f g a b = let same = one-meaning m (Err f) (Err g) a b in cc
 no_fault : (m : ModuleTree) (f : NetFault) → IsAccepted m → IsFault m f → ⊥
 no_fault m f a b = let lost = one-meaning m (Ok (net_of m)) (Err f) (a, refl) b in cc
 
+-- faults of a text before its module is accepted
+abbrev IsEarly : InputFault → Type 0
+IsEarly (Constant name) = ⊥
+IsEarly (Nodes count) = ⊥
+IsEarly NotBuilt = ⊥
+IsEarly _ = ⊤
+
+-- what a net is refused for
+one_port : (net : Netlist) (i j : ℕ) → first_constant net ≡ Some i → first_constant net ≡ Some j → i ≡ j
+one_port net i j a b = let same : Some i ≡ Some j = sym a ∙ b in cc
+
+one_constant : (net : Netlist) (x y : Text) → IsConstant net x → IsConstant net y → x ≡ y
+one_constant net x y a b = a.named ∙ ap (λ (j : ℕ). slice_index_or (output_names net) j []) (one_port net a.port b.port a.first b.first) ∙ sym b.named
+
+no_constant : (net : Netlist) (x : Text) → IsConstant net x → first_constant net ≡ None → ⊥
+no_constant net x a none = let lost : Some a.port ≡ None = sym a.first ∙ none in cc
+
+not_many : (net : Netlist) (count : ℕ) → HasManyNodes net count → IsMapped net → ⊥
+not_many net count a b = let c = a.counted in let d = a.many in let e = b.few in omega arith
+
 module _ (text : Text) where
   text_fault : (m n : ModuleTree) (f g : NetFault) → IsText text m → IsText text n → IsFault m f → IsFault n g → f ≡ g
   text_fault m n f g a b x y = one_fault n f g (subst (λ (t : ModuleTree). IsFault t f) (one_text text m n a b) x) y
@@ -59,45 +80,79 @@ module _ (text : Text) where
   text_no_fault : (m n : ModuleTree) (f : NetFault) → IsText text m → IsText text n → IsAccepted m → IsFault n f → ⊥
   text_no_fault m n f a b x y = no_fault n f (subst IsAccepted (one_text text m n a b) x) y
 
-  -- an accepted module's net is no chain, or one
-  text_chain : (m : ModuleTree) (k : ℕ) → IsText text m → IsChain (net_of m) k → IsNotBuilt text → ⊥
-  text_chain m k a x b = b.no_chain k (subst (λ (t : ModuleTree). IsChain (net_of t) k) (one_text text m b.tree a b.is_text) x)
+  -- a text of an accepted module is refused for what its net is, and for nothing that comes before
+  no_early : (m : ModuleTree) (f : InputFault) → IsGood text m → IsEarly f → IsRefused text f → ⊥
+  no_early m (TooLong w) good early (e, l) = let short = good.short in omega arith
+  no_early m (Lex g) good early (s, x) = no_tokens text good.is_text.found g good.is_text.tokens x
+  no_early m (Read g) good early (s, x) = some_text text m g good.is_text x
+  no_early m (Net g) good early (s, (n, x, u)) = text_no_fault m n g good.is_text x good.accepted u
+  no_early m (Constant name) good early x = early
+  no_early m (Nodes count) good early x = early
+  no_early m NotBuilt good early x = early
+
+  -- what holds of the net of one module of the text holds of that of another
+  of_one : (P : Netlist → Type 0) (m n : ModuleTree) → IsGood text m → IsGood text n → P (net_of m) → P (net_of n)
+  of_one P m n a b p = subst (λ (t : ModuleTree). P (net_of t)) (one_text text m n a.is_text b.is_text) p
 
   pub refused_once : (f g : InputFault) → IsRefused text f → IsRefused text g → f ≡ g
   refused_once (TooLong v) (TooLong w) (e, l) (f, m) = ap TooLong (e ∙ sym f)
   refused_once (TooLong v) (Lex g) (e, l) (s, y) = absurd (omega arith)
   refused_once (TooLong v) (Read g) (e, l) (s, y) = absurd (omega arith)
   refused_once (TooLong v) (Net g) (e, l) (s, y) = absurd (omega arith)
-  refused_once (TooLong v) NotBuilt (e, l) (s, y) = absurd (omega arith)
   refused_once (Lex f) (TooLong w) (s, x) (e, l) = absurd (omega arith)
   refused_once (Lex f) (Lex g) (s, x) (r, y) = ap Lex (one_lex_fault text f g x y)
   refused_once (Lex f) (Read g) (s, x) (r, y) = absurd (no_tokens text y.found f y.tokens x)
   refused_once (Lex f) (Net g) (s, x) (r, (n, y, z)) = absurd (no_tokens text y.found f y.tokens x)
-  refused_once (Lex f) NotBuilt (s, x) (r, y) = absurd (no_tokens text y.is_text.found f y.is_text.tokens x)
   refused_once (Read f) (TooLong w) (s, x) (e, l) = absurd (omega arith)
   refused_once (Read f) (Lex g) (s, x) (r, y) = absurd (no_tokens text x.found g x.tokens y)
   refused_once (Read f) (Read g) (s, x) (r, y) = ap Read (one_read_fault text f g x y)
   refused_once (Read f) (Net g) (s, x) (r, (n, y, z)) = absurd (some_text text n f y x)
-  refused_once (Read f) NotBuilt (s, x) (r, y) = absurd (some_text text y.tree f y.is_text x)
   refused_once (Net f) (TooLong w) (s, (m, x, u)) (e, l) = absurd (omega arith)
   refused_once (Net f) (Lex g) (s, (m, x, u)) (r, y) = absurd (no_tokens text x.found g x.tokens y)
   refused_once (Net f) (Read g) (s, (m, x, u)) (r, y) = absurd (some_text text m g x y)
   refused_once (Net f) (Net g) (s, (m, x, u)) (r, (n, y, z)) = ap Net (text_fault m n f g x y u z)
-  refused_once (Net f) NotBuilt (s, (m, x, u)) (r, y) = absurd (text_no_fault y.tree m f y.is_text x y.accepted u)
-  refused_once NotBuilt (TooLong w) (s, x) (e, l) = absurd (omega arith)
-  refused_once NotBuilt (Lex g) (s, x) (r, y) = absurd (no_tokens text x.is_text.found g x.is_text.tokens y)
-  refused_once NotBuilt (Read g) (s, x) (r, y) = absurd (some_text text x.tree g x.is_text y)
-  refused_once NotBuilt (Net g) (s, x) (r, (n, y, z)) = absurd (text_no_fault x.tree n g x.is_text y x.accepted z)
-  refused_once NotBuilt NotBuilt (s, x) (r, y) = refl
+  refused_once (Constant x) (Constant y) (m, a, p) (n, b, q) = ap Constant (one_constant (net_of n) x y (of_one (λ net. IsConstant net x) m n a b p) q)
+  refused_once (Constant x) (Nodes c) (m, a, p) (n, b, q) = absurd (no_constant (net_of n) x (of_one (λ net. IsConstant net x) m n a b p) q.no_constant)
+  refused_once (Constant x) NotBuilt (m, a, p) (n, b, q) = absurd (no_constant (net_of n) x (of_one (λ net. IsConstant net x) m n a b p) q.is_mapped.no_constant)
+  refused_once (Nodes c) (Constant y) (m, a, p) (n, b, q) = absurd (no_constant (net_of m) y (of_one (λ net. IsConstant net y) n m b a q) p.no_constant)
+  refused_once (Nodes c) (Nodes d) (m, a, p) (n, b, q) = ap Nodes (let e = of_one (λ net. HasManyNodes net c) m n a b p in let f = e.counted in let g = q.counted in omega arith)
+  refused_once (Nodes c) NotBuilt (m, a, p) (n, b, q) = absurd (not_many (net_of n) c (of_one (λ net. HasManyNodes net c) m n a b p) q.is_mapped)
+  refused_once NotBuilt (Constant y) (m, a, p) (n, b, q) = absurd (no_constant (net_of m) y (of_one (λ net. IsConstant net y) n m b a q) p.is_mapped.no_constant)
+  refused_once NotBuilt (Nodes d) (m, a, p) (n, b, q) = absurd (not_many (net_of m) d (of_one (λ net. HasManyNodes net d) n m b a q) p.is_mapped)
+  refused_once NotBuilt NotBuilt x y = refl
+  refused_once (TooLong v) (Constant y) x (n, b, q) = absurd (no_early n (TooLong v) b tt x)
+  refused_once (TooLong v) (Nodes d) x (n, b, q) = absurd (no_early n (TooLong v) b tt x)
+  refused_once (TooLong v) NotBuilt x (n, b, q) = absurd (no_early n (TooLong v) b tt x)
+  refused_once (Lex f) (Constant y) x (n, b, q) = absurd (no_early n (Lex f) b tt x)
+  refused_once (Lex f) (Nodes d) x (n, b, q) = absurd (no_early n (Lex f) b tt x)
+  refused_once (Lex f) NotBuilt x (n, b, q) = absurd (no_early n (Lex f) b tt x)
+  refused_once (Read f) (Constant y) x (n, b, q) = absurd (no_early n (Read f) b tt x)
+  refused_once (Read f) (Nodes d) x (n, b, q) = absurd (no_early n (Read f) b tt x)
+  refused_once (Read f) NotBuilt x (n, b, q) = absurd (no_early n (Read f) b tt x)
+  refused_once (Net f) (Constant y) x (n, b, q) = absurd (no_early n (Net f) b tt x)
+  refused_once (Net f) (Nodes d) x (n, b, q) = absurd (no_early n (Net f) b tt x)
+  refused_once (Net f) NotBuilt x (n, b, q) = absurd (no_early n (Net f) b tt x)
+  refused_once (Constant x) (TooLong w) (m, a, p) y = absurd (no_early m (TooLong w) a tt y)
+  refused_once (Constant x) (Lex g) (m, a, p) y = absurd (no_early m (Lex g) a tt y)
+  refused_once (Constant x) (Read g) (m, a, p) y = absurd (no_early m (Read g) a tt y)
+  refused_once (Constant x) (Net g) (m, a, p) y = absurd (no_early m (Net g) a tt y)
+  refused_once (Nodes c) (TooLong w) (m, a, p) y = absurd (no_early m (TooLong w) a tt y)
+  refused_once (Nodes c) (Lex g) (m, a, p) y = absurd (no_early m (Lex g) a tt y)
+  refused_once (Nodes c) (Read g) (m, a, p) y = absurd (no_early m (Read g) a tt y)
+  refused_once (Nodes c) (Net g) (m, a, p) y = absurd (no_early m (Net g) a tt y)
+  refused_once NotBuilt (TooLong w) (m, a, p) y = absurd (no_early m (TooLong w) a tt y)
+  refused_once NotBuilt (Lex g) (m, a, p) y = absurd (no_early m (Lex g) a tt y)
+  refused_once NotBuilt (Read g) (m, a, p) y = absurd (no_early m (Read g) a tt y)
+  refused_once NotBuilt (Net g) (m, a, p) y = absurd (no_early m (Net g) a tt y)
 
-  pub not_both : (m : ModuleTree) (k : ℕ) (f : InputFault) → IsLaidOut text m k → IsRefused text f → ⊥
-  not_both m k (TooLong w) is (e, l) = let short = is.short in omega arith
-  not_both m k (Lex f) is (s, x) = no_tokens text is.is_text.found f is.is_text.tokens x
-  not_both m k (Read f) is (s, x) = some_text text m f is.is_text x
-  not_both m k (Net f) is (s, (n, x, u)) = text_no_fault m n f is.is_text x is.accepted u
-  not_both m k NotBuilt is (s, x) = text_chain m k is.is_text is.chain x
+  pub not_both : (m : ModuleTree) (f : InputFault) → IsLaidOut text m → IsRefused text f → ⊥
+  not_both m (Constant name) is (n, b, q) = no_constant (net_of m) name (of_one (λ net. IsConstant net name) n m b is.good q) is.is_mapped.no_constant
+  not_both m (Nodes count) is (n, b, q) = not_many (net_of m) count (of_one (λ net. HasManyNodes net count) n m b is.good q) is.is_mapped
+  not_both m NotBuilt is (n, b, q) = (of_one IsNotBuilt n m b is.good q).no_chain is.chain
+  not_both m (TooLong w) is x = no_early m (TooLong w) is.good tt x
+  not_both m (Lex g) is x = no_early m (Lex g) is.good tt x
+  not_both m (Read g) is x = no_early m (Read g) is.good tt x
+  not_both m (Net g) is x = no_early m (Net g) is.good tt x
 
-  pub one_layout : (m n : ModuleTree) (j k : ℕ) → IsLaidOut text m j → IsLaidOut text n k → (m ≡ n) × (j ≡ k)
-  one_layout m n j k a b =
-      let same = one_text text m n a.is_text b.is_text in
-      (same, one_number (net_of n) j k (subst (λ (t : ModuleTree). IsChain (net_of t) j) same a.chain) b.chain)
+  pub one_module : (m n : ModuleTree) → IsLaidOut text m → IsLaidOut text n → m ≡ n
+  one_module m n a b = one_text text m n a.good.is_text b.good.is_text

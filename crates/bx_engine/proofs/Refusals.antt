@@ -6,9 +6,11 @@ use Rattle.std.proofs.lemmas.List.{append-nil}
 use Rattle.bx_verilog.specs.Formulas.{Text}
 use Rattle.bx_verilog.specs.declared.fault.NetFault.{NetFault}
 use Rattle.bx_verilog.specs.declared.fault.NetFault.TheVariants.{BadPort, NoOutput, TwoDrivers, NoDriver, Cycle, NoMemory}
-use Rattle.bx_engine.specs.Texts.{spaced, lines_text, IsPlain, IsPlainFault, net_fault_text, refusal_text}
-use Rattle.bx_engine.proofs.Spellings.{Line, line, line_text, lines_once}
-use Rattle.bx_engine.proofs.PlainTexts.{plain-tested}
+use Rattle.bx_lines.specs.Lines.{ended, text_of}
+use Rattle.bx_says.specs.Texts.{spaced, IsPlain}
+use Rattle.bx_engine.specs.Said.{IsPlainFault, net_fault_text, refusal_text}
+use Rattle.bx_says.proofs.Spellings.{Line, line, line_text, lines_once}
+use Rattle.bx_says.proofs.PlainTexts.{plain-tested}
 
 -- a fault as words, and back
 abbrev fault_words : NetFault → List Text
@@ -59,9 +61,9 @@ line_is (NoDriver name) = behind (net_fault_text (NoDriver name))
 line_is (Cycle name) = behind (net_fault_text (Cycle name))
 line_is NoMemory = behind (net_fault_text NoMemory)
 
-refused_is : (f : NetFault) → lines_text (line_text (fault_line f) ∷ []) ≡ refusal_text (net_fault_text f)
+refused_is : (f : NetFault) → text_of (line_text (fault_line f) ∷ []) ≡ refusal_text (net_fault_text f)
 unfolding refusal_text
-refused_is f = ap (λ (text : Text). lines_text (text ∷ [])) (line_is f)
+refused_is f = append-nil (ended (line_text (fault_line f))) ∙ ap ended (line_is f)
 
 pub one_fault : (f g : NetFault) → IsPlainFault f → IsPlainFault g → refusal_text (net_fault_text f) ≡ refusal_text (net_fault_text g) → f ≡ g
 one_fault f g p q e =

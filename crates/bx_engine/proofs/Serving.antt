@@ -1,20 +1,22 @@
 -- From how a run's steps end to the answer that the words and the file give.
-use Rattle.std.proofs.Common.{◌≡◌, ℕ, List, Option, Some, None, refl, sym, ◌∙◌, ap, subst}
+use Rattle.std.proofs.Common.{◌≡◌, List, Option, Some, None, refl, sym, ◌∙◌, ap, subst}
 use Rattle.std.specs.Prelude.{String, IsSome, option_and_then}
 use Rattle.bx_desk.specs.Desk.{Files, DeskState, IsFile, Says, SaysFront}
 use Rattle.bx_logic.specs.Nets.{Netlist}
 use Rattle.bx_syntax.specs.Parts.{ModuleTree}
 use Rattle.bx_verilog.specs.Formulas.{Text}
+use Rattle.bx_grid.specs.declared.ratio.Ratio.{Ratio}
 use Rattle.bx_engine.specs.declared.status.InputFault.{InputFault}
 use Rattle.bx_engine.specs.declared.status.Status.{Status}
 use Rattle.bx_engine.specs.declared.status.Status.TheVariants.{Found, Refused}
-use Rattle.bx_engine.specs.Grids.{FormGrid}
-use Rattle.bx_engine.specs.Columns.{column}
-use Rattle.bx_engine.specs.Texts.{refusal_text, input_fault_text}
-use Rattle.bx_engine.specs.Reports.{report_of}
-use Rattle.bx_engine.specs.Runs.{net_word, net_text, IsRefused, HasText, IsThere, IsAnswer, refused, laid_out}
-use Rattle.bx_engine.specs.Endings.{EndsSaying, done, failed, ReadsLayout}
-use Rattle.bx_engine.specs.Serves.{Outcome, answered, unsaid}
+use Rattle.bx_network.specs.Networks.{Network}
+use Rattle.bx_layout.specs.declared.layout.Layout.{Layout}
+use Rattle.bx_layout.specs.Grids.{FormGrid}
+use Rattle.bx_says.specs.Reports.{report_of, report_text}
+use Rattle.bx_engine.specs.Said.{refusal_text, input_fault_text}
+use Rattle.bx_engine.specs.Told.{net_word, net_text, HasText, IsThere}
+use Rattle.bx_engine.specs.Answers.{IsRefused, IsAnswer, refused, laid_out, network_of, layout_of, report}
+use Rattle.bx_engine.specs.Outcomes.{EndsSaying, done, failed, ReadsLayout, Outcome, answered, unsaid}
 
 -- a file of which a text is told is there
 there_is : (net text : Text) (told : Option Files) → IsFile told net text → IsThere told net
@@ -40,12 +42,16 @@ module _ {A : Type 0} (words : List (String A)) (net : Text) (named : net_word w
   refused_for text fault file is = refused net text fault named (there_is net text told file) (has_text text file) is
 
   -- the answer that a layout gives
-  pub laid : (chain : Netlist) (k : ℕ) (grid : FormGrid) → ReadsLayout told net chain k → grid ≡ column k → IsAnswer words told (Found grid.ratio) (report_of chain k)
-  laid chain k grid h is_column =
-      let tree : ModuleTree = h.has_layout.tree in
-      subst (λ (g : FormGrid). IsAnswer words told (Found g.ratio) (report_of chain k)) (sym is_column)
-      (subst (λ (n : Netlist). IsAnswer words told (Found (column k).ratio) (report_of n k)) (sym h.has_layout.same)
-      (laid_out net h.text tree k named (there_is net h.text told h.file) (has_text h.text h.file) h.has_layout.laid_out))
+  pub laid : (n : Netlist) (N : Network) (L : Layout) (g : FormGrid) → ReadsLayout told net n N L g → IsAnswer words told (Found g.ratio) (report_text (report_of n N L.places g))
+  laid n N L g h =
+      let it = h.has_layout in
+      let m : ModuleTree = it.tree in
+      let answer : IsAnswer words told (Found (layout_of m).ratio) (report_text (report m g)) =
+      laid_out net h.text m g named (there_is net h.text told h.file) (has_text h.text h.file) it.laid_out it.grid in
+      subst (λ (r : Ratio). IsAnswer words told (Found r) (report_text (report_of n N L.places g))) (sym it.grid.ratio)
+      (subst (λ (l : Layout). IsAnswer words told (Found (layout_of m).ratio) (report_text (report_of n N l.places g))) (sym it.layout)
+      (subst (λ (M : Network). IsAnswer words told (Found (layout_of m).ratio) (report_text (report_of n M (layout_of m).places g))) (sym it.network)
+      (subst (λ (x : Netlist). IsAnswer words told (Found (layout_of m).ratio) (report_text (report_of x (network_of m) (layout_of m).places g))) (sym it.same) answer)))
 
 -- the text of an answer was said, or a front of it, after a load or none
 pub serves : {A : Type 0} (words : List (String A)) (old mid new : DeskState) (status result : Status) (text : Text) → IsAnswer words old.files status text → mid ≡ old → EndsSaying mid new status text result → Outcome words old new result

@@ -1,35 +1,21 @@
--- The nets that are laid out: one input, one output, and from the output's net a walk over copies and
--- inversions alone to the input.
-use Rattle.std.specs.Prelude.{◌≡◌, ℕ, suc, ◌≤◌, List, [], ◌∷◌, slice_index_or}
-use Rattle.bx_logic.specs.declared.op.Op.TheVariants.{Buf, Not}
-use Rattle.bx_logic.specs.declared.driver.Driver.{Driver}
-use Rattle.bx_logic.specs.declared.driver.Driver.TheVariants.{Input, Gate}
-use Rattle.bx_logic.specs.Nets.{Netlist, driver_at, output_names}
-use Rattle.bx_verilog.specs.Formulas.{Text}
+-- The networks that are laid out: one input, zero or more inversions and one output.
+use Rattle.std.specs.Prelude.{◌≡◌, ℕ, ◌+◌, Bool, true, false, List, length, filter}
+use Rattle.bx_forms.specs.declared.kind.Kind.{Kind}
+use Rattle.bx_forms.specs.declared.kind.Kind.TheVariants.{Not}
+use Rattle.bx_network.specs.declared.node.Node.{Node}
+use Rattle.bx_network.specs.Networks.{Network, is_output}
+use Rattle.bx_layout.specs.Valuations.{is_input}
 
--- how many inversions a layout may have: with its input and its output these are 96 nodes, the most that
--- a mapped network may have
-abbrev pub most_inversions : ℕ
-most_inversions = 94
+abbrev pub is_not : Kind → Bool
+is_not Not = true
+is_not _ = false
 
--- from this net the walk comes to input 0, over so many inversions
-pub data LeadsToInput (drivers : List Driver) : ℕ → ℕ → Type 0 where
-  input : (n : ℕ) → driver_at drivers n ≡ Input 0 → LeadsToInput drivers n 0
-  copy : (n m count : ℕ) → driver_at drivers n ≡ Gate Buf (m ∷ []) → LeadsToInput drivers m count → LeadsToInput drivers n count
-  inversion : (n m count : ℕ) → driver_at drivers n ≡ Gate Not (m ∷ []) → LeadsToInput drivers m count → LeadsToInput drivers n (suc count)
+-- how many nodes are of a kind that passes the test
+abbrev pub count_of : (Kind → Bool) → List Node → ℕ
+count_of test nodes = length (filter (λ node. test node.kind) nodes)
 
-pub record IsChain (net : Netlist) (inversions : ℕ) : Type 0 where
-  pub input : Text
-  pub one_input : net.inputs ≡ input ∷ []
-  pub output : Text
-  pub from : ℕ
-  pub one_output : net.outputs ≡ (output, from) ∷ []
-  pub leads : LeadsToInput net.drivers from inversions
-  pub few : inversions ≤ most_inversions
-
--- the names of its input and its output
-abbrev pub input_name : Netlist → Text
-input_name net = slice_index_or net.inputs 0 []
-
-abbrev pub output_name : Netlist → Text
-output_name net = slice_index_or (output_names net) 0 []
+-- there are no other nodes than these, in whatever order
+pub record IsChain (N : Network) : Type 0 where
+  pub one_input : count_of is_input N.nodes ≡ 1
+  pub one_output : count_of is_output N.nodes ≡ 1
+  pub others_invert : count_of is_not N.nodes + 2 ≡ length N.nodes

@@ -3,7 +3,8 @@ use Rattle.std.specs.Prelude.{ℕ, ◌+◌, ◌<◌, ◌≤◌, length}
 use Rattle.bx_grid.specs.declared.ratio.Ratio.{Ratio}
 use Rattle.bx_grid.specs.declared.ratio.Limits.{Limits}
 use Rattle.bx_grid.specs.Orders.{IsWithin, IsEarlier}
-use Rattle.bx_engine.specs.Networks.{Network, IsDown, IsUp}
+use Rattle.bx_network.specs.Networks.{Network}
+use Rattle.bx_network.specs.Paths.{IsDown, IsUp}
 
 -- a longest path through this node has at least as many edges as there are rows, and so one node too many
 pub record Late (N : Network) (ratio : Ratio) (v : ℕ) : Type 0 where

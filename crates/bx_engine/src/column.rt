@@ -1,74 +1,76 @@
-//! The layout of a chain in one column: its input above, a tile for each inversion, its output below.
-//! It promises the column that the definitions name; that it is sound and computes the module of the
-//! chain is a law about them. What a chain is, and how a layout is printed, is left to others.
-ghost use Rattle.std.specs.Prelude.{◌≡◌, ◌≤◌, ◌+◌, ◌<◌, IfOk};
-ghost use Rattle.bx_engine.specs.Chains.{most_inversions};
-ghost use Rattle.bx_engine.specs.Columns.{column as column_of, column_form, column_tiles};
+//! The layout of a chain in one column: a row for each node, and each edge on the border between its two
+//! tiles. It promises the layout that the definitions name. That it is legal where the network is a chain
+//! is a law about them; what forms it gives is for the crate of layouts to say.
+ghost use Rattle.std.specs.Prelude.{◌≡◌, ◌≤◌, ◌<◌, ◌*◌, ◌/◌, IfOk, map};
+ghost use Rattle.std.specs.List.{range_with_len};
+ghost use Rattle.bx_engine.specs.Columns.{side_down as down_from, edge_down as edge_on, column_of};
 
-use crate::grid::FormGrid;
-use bx_forms::Form;
-use bx_grid::Ratio;
+use crate::limits::MOST_NODES;
+use bx_forms::Side;
+use bx_grid::{Ratio, border};
+use bx_layout::{Borders, Layout, Places};
 use bx_logic::NoMemory;
 use std::alloc::Global;
 
-/// The column of a chain with so many inversions.
+/// The column of a network of so many nodes.
 ///
 /// # Errors
 ///
-/// `NoMemory` if memory is refused for its tiles.
-pub fn column(alloc: Global, inversions: u32) -> Result<FormGrid, NoMemory>
-    requires { inversions ≤ most_inversions }
-    ensures { IfOk result (λ grid. grid ≡ column_of inversions) }
+/// `NoMemory` if memory is refused for its places and borders.
+pub(crate) fn column(alloc: Global, count: u32) -> Result<Layout, NoMemory>
+    requires { count ≤ MOST_NODES }
+    ensures { IfOk result (λ layout. layout ≡ column_of count) }
 {
-    let tiles = tiles(alloc, inversions)?;
-    let ratio = Ratio {
-        w: 1,
-        h: inversions + 2,
-    };
-    Ok(FormGrid::new(ratio, tiles))
+    let places = places(alloc, count)?;
+    let borders = borders(alloc, count)?;
+    Ok(Layout {
+        ratio: Ratio { w: 1, h: count },
+        places: Places::new(places),
+        borders: Borders::new(borders),
+    })
 }
 
-// The tiles of the column, from the first row to the last.
-fn tiles(alloc: Global, inversions: u32) -> Result<Vec<Option<Form>>, NoMemory>
-    requires { inversions ≤ most_inversions }
-    ensures { IfOk result (λ tiles. tiles.items ≡ column_tiles inversions) }
+// The tile of each node: that of its number.
+fn places(alloc: Global, count: u32) -> Result<Vec<u32>, NoMemory>
+    ensures { IfOk result (λ places. places.items ≡ range_with_len 0 count) }
 {
-    let tiles = (0..inversions + 2)
-        .map(|y| Some(form_of_row(inversions, y)))
-        .collect(alloc)?;
-    Ok(tiles)
+    let mut places = Vec::with_capacity(alloc, count as usize)?;
+    for v in 0..count {
+        places.push(v)?;
+    }
+    Ok(places)
 }
 
-// The form on a row of the column. A signal zigzags down it, since each row is shifted against the one
-// above.
-fn form_of_row(inversions: u32, y: u32) -> Form
-    ensures { result ≡ column_form inversions y }
+// The edge on each border.
+fn borders(alloc: Global, count: u32) -> Result<Vec<Option<u32>>, NoMemory>
+    requires { count ≤ MOST_NODES }
+    ensures { IfOk result (λ borders. borders.items ≡ map (edge_on count) (range_with_len 0 (2 * count))) }
 {
-    let odd = y % 2 == 1;
-    if y == 0 {
-        Form::INPUT_R
-    } else if y <= inversions {
-        if odd { Form::NOT_LL } else { Form::NOT_RR }
-    } else if odd {
-        Form::OUTPUT_L
+    let borders = (0..2 * count).map(|b| edge_down(count, b)).collect(alloc)?;
+    Ok(borders)
+}
+
+// The edge on a border: that of the tile above, on the side on which the next tile stands.
+fn edge_down(count: u32, b: u32) -> Option<u32>
+    requires few { count ≤ MOST_NODES }
+    requires within { b < 2 * count }
+    ensures { result ≡ edge_on count b }
+{
+    let tile = b / 2;
+    if b == border(tile, side_down(tile)) && tile + 1 < count {
+        Some(tile)
     } else {
-        Form::OUTPUT_R
+        None
     }
 }
 
-#[cfg(test)]
-mod tests {
-    use super::*;
-    use std::test::Fail;
-
-    #[test]
-    fn two_inversions_take_four_rows(rt: HostRuntime) -> Result<(), Fail> {
-        let grid = column(rt.alloc(), 2)?;
-        assert_eq!(rt; grid.ratio(), Ratio { w: 1, h: 4 });
-        assert_eq!(rt; grid.tile(0), Some(Form::INPUT_R));
-        assert_eq!(rt; grid.tile(1), Some(Form::NOT_LL));
-        assert_eq!(rt; grid.tile(2), Some(Form::NOT_RR));
-        assert_eq!(rt; grid.tile(3), Some(Form::OUTPUT_L));
-        Ok(())
+// The side on which the next tile of a column stands.
+fn side_down(tile: u32) -> Side
+    ensures { result ≡ down_from tile }
+{
+    if tile % 2 == 1 {
+        Side::Left
+    } else {
+        Side::Right
     }
 }

@@ -1,35 +1,37 @@
 //! From the file of a module to its layout: the text is loaded and cut into tokens, these are read as a
-//! module, the module gives its net, and a net that is a chain is laid out in a column. It promises the
-//! layout where there is one and else why there is none, and says nothing. Each step is another's.
-ghost use Rattle.std.specs.Prelude.{◌≡◌, ◌≤◌, length, IfOk, IfErr, OnOk};
-ghost use Rattle.bx_engine.specs.Columns.{column as column_of};
-ghost use Rattle.bx_engine.specs.Endings.{HasNet, HasLayout, ReadsLayout, TextEnds, FileEnds};
-ghost use Rattle.bx_engine.specs.Runs.{IsShort};
+//! module, the module gives its net, the net is mapped, and a network that is a chain is laid out. It
+//! promises the layout where there is one and else why there is none, and says nothing. Each step is
+//! another's.
+ghost use Rattle.std.specs.Prelude.{◌≡◌, ◌<◌, length, slice_index_or, [], IfOk, IfErr, OnOk};
+ghost use Rattle.bx_logic.specs.Nets.{output_names};
+ghost use Rattle.bx_engine.specs.Answers.{IsShort};
+ghost use Rattle.bx_engine.specs.Outcomes.{HasNet, HasNetwork, HasLayout, ReadsLayout, NetEnds, TextEnds, FileEnds};
 
-use crate::chain::inversions;
+use crate::chain::is_chain;
 use crate::column::column;
-use crate::grid::FormGrid;
+use crate::limits::{MODULE_BYTES, MOST_NODES};
 use crate::status::{InputFault, Which};
 use bx_desk::{Desk, LoadFault};
+use bx_layout::{FormGrid, Layout, form_grid};
 use bx_lex::{LexFault, read_tokens};
-use bx_logic::{Net, NoMemory};
+use bx_logic::{Name, Net, NoMemory};
+use bx_map::{MapFault, map_net};
+use bx_network::MappedNet;
 use bx_verilog::{NetFault, ReadFault, read_module, to_net};
 use std::alloc::Global;
 
-/// The most bytes that a module's file may have.
-pub const MODULE_BYTES: u64 = 1_048_576;
-
-/// A net that is a chain of so many inversions, and the column that it is laid out in.
+/// A net, the network that it is mapped to, the network's layout, and the forms of that.
 #[derive(Debug, Drop)]
-pub(crate) struct Layout {
+pub(crate) struct Design {
     pub net: Net,
-    pub inversions: u32,
+    pub mapped: MappedNet,
+    pub layout: Layout,
     pub grid: FormGrid,
 }
 
 /// Why there is no layout of a file. Nothing was said yet.
 #[derive(Debug, Drop)]
-pub(crate) enum NoLayout {
+pub(crate) enum NoDesign {
     /// The file was read and is refused.
     Fault(InputFault),
     /// The file could not be read.
@@ -38,96 +40,97 @@ pub(crate) enum NoLayout {
     NoMemory,
 }
 
-impl From<LexFault> for NoLayout {
+impl From<LexFault> for NoDesign {
     ghost use Rattle.std.specs.Prelude.{◌≡◌};
-    ghost use Rattle.bx_engine.specs.Endings.{lex_end};
+    ghost use Rattle.bx_engine.specs.Outcomes.{lex_end};
 
     ghost from_gives = { λ fault end. end ≡ lex_end fault };
 
     fn from(fault: LexFault) -> Self {
         match fault {
-            LexFault::NoMemory => NoLayout::NoMemory,
-            fault => NoLayout::Fault(InputFault::Lex(fault)),
+            LexFault::NoMemory => NoDesign::NoMemory,
+            fault => NoDesign::Fault(InputFault::Lex(fault)),
         }
     }
 }
 
-impl From<ReadFault> for NoLayout {
+impl From<ReadFault> for NoDesign {
     ghost use Rattle.std.specs.Prelude.{◌≡◌};
-    ghost use Rattle.bx_engine.specs.Endings.{read_end};
+    ghost use Rattle.bx_engine.specs.Outcomes.{read_end};
 
     ghost from_gives = { λ fault end. end ≡ read_end fault };
 
     fn from(fault: ReadFault) -> Self {
         match fault {
-            ReadFault::NoMemory => NoLayout::NoMemory,
-            fault => NoLayout::Fault(InputFault::Read(fault)),
+            ReadFault::NoMemory => NoDesign::NoMemory,
+            fault => NoDesign::Fault(InputFault::Read(fault)),
         }
     }
 }
 
-impl From<NetFault> for NoLayout {
+impl From<NetFault> for NoDesign {
     ghost use Rattle.std.specs.Prelude.{◌≡◌};
-    ghost use Rattle.bx_engine.specs.Endings.{net_end};
+    ghost use Rattle.bx_engine.specs.Outcomes.{net_end};
 
     ghost from_gives = { λ fault end. end ≡ net_end fault };
 
     fn from(fault: NetFault) -> Self {
         match fault {
-            NetFault::NoMemory => NoLayout::NoMemory,
-            fault => NoLayout::Fault(InputFault::Net(fault)),
+            NetFault::NoMemory => NoDesign::NoMemory,
+            fault => NoDesign::Fault(InputFault::Net(fault)),
         }
     }
 }
 
-impl From<NoMemory> for NoLayout {
+impl From<NoMemory> for NoDesign {
     ghost use Rattle.std.specs.Prelude.{◌≡◌};
-    ghost use Rattle.bx_engine.specs.declared.design.NoLayout.TheVariants.{NoMemory as Refused};
+    ghost use Rattle.bx_engine.specs.declared.design.NoDesign.TheVariants.{NoMemory as Refused};
 
     ghost from_gives = { λ _ end. end ≡ Refused };
 
     fn from(_fault: NoMemory) -> Self {
-        NoLayout::NoMemory
+        NoDesign::NoMemory
     }
 }
 
 /// Loads the file, reads its module and lays it out. It takes all the memory that a run takes.
-pub(crate) fn lay_out<D: Desk>(alloc: Global, name: &str, desk: &mut D) -> Result<Layout, NoLayout>
-    ensures layout { IfOk result (λ layout. ReadsLayout (D.state desk.old).files name.now layout.net layout.inversions) }
-    ensures grid { IfOk result (λ layout. layout.grid ≡ column_of layout.inversions) }
+pub(crate) fn lay_out<D: Desk>(alloc: Global, name: &str, desk: &mut D) -> Result<Design, NoDesign>
+    ensures layout { IfOk result (λ design. ReadsLayout (D.state desk.old).files name.now design.net design.mapped design.layout design.grid) }
     ensures ok_stays { OnOk result (D.state desk.new ≡ D.state desk.old) }
     ensures err { IfErr result (FileEnds (D.state desk.old) (D.state desk.new) name.now) }
 {
     let mut text = Vec::new(alloc);
     match desk.load(name, MODULE_BYTES, &mut text) {
-        Ok(()) => layout_of_text(alloc, &text),
-        Err(LoadFault::TooLong) => Err(NoLayout::Fault(InputFault::TooLong(Which::NetFile))),
-        Err(LoadFault::Failed) => Err(NoLayout::Unread),
-        Err(LoadFault::NoMemory) => Err(NoLayout::NoMemory),
+        Ok(()) => lay_out_text(alloc, &text),
+        Err(LoadFault::TooLong) => Err(NoDesign::Fault(InputFault::TooLong(Which::NetFile))),
+        Err(LoadFault::Failed) => Err(NoDesign::Unread),
+        Err(LoadFault::NoMemory) => Err(NoDesign::NoMemory),
     }
 }
 
 // Reads the module of a text and lays it out.
-fn layout_of_text(alloc: Global, text: &[u8]) -> Result<Layout, NoLayout>
+fn lay_out_text(alloc: Global, text: &[u8]) -> Result<Design, NoDesign>
     requires { IsShort text.now }
-    ensures layout { IfOk result (λ layout. HasLayout text.now layout.net layout.inversions) }
-    ensures grid { IfOk result (λ layout. layout.grid ≡ column_of layout.inversions) }
+    ensures layout { IfOk result (λ design. HasLayout text.now design.net design.mapped design.layout design.grid) }
     ensures err { IfErr result (TextEnds text.now) }
 {
     let net = net_of_text(alloc, text)?;
-    let Some(inversions) = inversions(&net) else {
-        return Err(NoLayout::Fault(InputFault::NotBuilt));
-    };
-    let grid = column(alloc, inversions)?;
-    Ok(Layout {
+    let mapped = network_of_net(alloc, &net)?;
+    if !is_chain(&mapped) {
+        return Err(NoDesign::Fault(InputFault::NotBuilt));
+    }
+    let layout = column(alloc, mapped.node_count())?;
+    let grid = form_grid(alloc, &mapped, &layout)?;
+    Ok(Design {
         net,
-        inversions,
+        mapped,
+        layout,
         grid,
     })
 }
 
 // Reads the module of a text, and makes its net.
-fn net_of_text(alloc: Global, text: &[u8]) -> Result<Net, NoLayout>
+fn net_of_text(alloc: Global, text: &[u8]) -> Result<Net, NoDesign>
     requires { IsShort text.now }
     ensures net { IfOk result (HasNet text.now) }
     ensures err { IfErr result (TextEnds text.now) }
@@ -136,4 +139,29 @@ fn net_of_text(alloc: Global, text: &[u8]) -> Result<Net, NoLayout>
     let module = read_module(alloc, text, &tokens)?;
     let net = to_net(alloc, &module)?;
     Ok(net)
+}
+
+// Maps a net to its network, unless an output is constant or there are too many nodes.
+fn network_of_net(alloc: Global, net: &Net) -> Result<MappedNet, NoDesign>
+    ensures network { IfOk result (HasNetwork net.now) }
+    ensures err { IfErr result (NetEnds net.now) }
+{
+    match map_net(alloc, net, MOST_NODES) {
+        Ok(mapped) => Ok(mapped),
+        Err(MapFault::ConstantOutput(port)) => {
+            let name = name_of_output(alloc, net, port)?;
+            Err(NoDesign::Fault(InputFault::Constant(name)))
+        }
+        Err(MapFault::TooManyNodes(count)) => Err(NoDesign::Fault(InputFault::Nodes(count))),
+        Err(MapFault::NoMemory) => Err(NoDesign::NoMemory),
+    }
+}
+
+// The name of an output, as one of its own.
+fn name_of_output(alloc: Global, net: &Net, port: u32) -> Result<Name, NoMemory>
+    requires { port < length net.now.outputs }
+    ensures { IfOk result (λ name. name ≡ slice_index_or (output_names net.now) port []) }
+{
+    let bytes = Vec::from_slice(alloc, net.output_name(port).as_slice())?;
+    Ok(Name::new(bytes))
 }

@@ -3,28 +3,27 @@
 //! Its clauses are the tool's promise. Each status is tied to its cause in both directions: it comes
 //! only where its cause stands, and where the cause stands nothing else comes but want of memory or a
 //! fault of the desk, which in turn come only where the desk's count of such faults rose.
-ghost use Rattle.std.specs.Prelude.{◌≡◌, ℕ, Some, None, Option, IsSome, option_map};
-ghost use Rattle.bx_desk.specs.Desk.{Rose, FailsToLoad, Says, SaysFront};
+ghost use Rattle.std.specs.Prelude.{◌≡◌, length, Some, None, Option, IsSome, option_map};
+ghost use Rattle.bx_desk.specs.Desk.{Rose, FailsToLoad, SaysFront};
 ghost use Rattle.bx_desk.specs.Pieces.{pending, IsToSay};
 ghost use Rattle.bx_syntax.specs.Parts.{ModuleTree};
 ghost use Rattle.bx_verilog.specs.Formulas.{Text};
 ghost use Rattle.bx_verilog.specs.Equations.{module_of};
 ghost use Rattle.bx_verilog.specs.Elaboration.{net_of};
-ghost use Rattle.bx_engine.specs.Chains.{IsChain};
-ghost use Rattle.bx_engine.specs.ChainNetworks.{chain_network};
-ghost use Rattle.bx_engine.specs.Columns.{column as column_of};
-ghost use Rattle.bx_engine.specs.Reports.{report_of};
-ghost use Rattle.bx_engine.specs.Endings.{EndsSaying};
 ghost use Rattle.bx_grid.specs.declared.ratio.Ratio.{Ratio as Sides};
+ghost use Rattle.bx_layout.specs.Grids.{FormGrid};
+ghost use Rattle.bx_says.specs.Reports.{report_of, report_text};
 ghost use Rattle.bx_engine.specs.declared.status.Which.{Which as Place};
 ghost use Rattle.bx_engine.specs.declared.status.InputFault.{InputFault as Fault};
 ghost use Rattle.bx_engine.specs.declared.status.Status.{Status as Ending};
 ghost use Rattle.bx_engine.specs.Statuses.{IsSettled};
-ghost use Rattle.bx_engine.specs.Texts.{refusal_text, word_fault_text, input_fault_text};
-ghost use Rattle.bx_engine.specs.Runs.{net_word as net_word_of, net_text, IsRefused, IsLaidOut, IsLayout, IsThere, IsAnswer};
-ghost use Rattle.bx_engine.specs.Serves.{Outcome, NoneFell};
+ghost use Rattle.bx_engine.specs.Told.{net_word as net_word_of, IsTold, IsThere};
+ghost use Rattle.bx_engine.specs.Answers.{IsRefused, IsLaidOut, IsGridOf, IsAnswer, network_of, layout_of, report as report_for};
+ghost use Rattle.bx_engine.specs.Layouts.{IsLayout};
+ghost use Rattle.bx_engine.specs.Said.{SaysOn, refusal_text, word_fault_text, input_fault_text};
+ghost use Rattle.bx_engine.specs.Outcomes.{EndsSaying, Outcome, NoneFell};
 
-use crate::design::{Layout, NoLayout, lay_out};
+use crate::design::{Design, NoDesign, lay_out};
 use crate::refusal::{put_fault, put_refusal};
 use crate::report::put_report;
 use crate::status::{InputFault, Status, Which, WordFault};
@@ -44,34 +43,34 @@ pub fn run<T: Threads + Sync, D: Desk, G: Gate + Sync>(
 ) -> Status
     // On every desk, also one that tells nothing of its files, a settled status is the answer to some text that
     // the file may have, and what goes with it was said.
-    ensures answered { IsSettled result → (text : Text) × IsAnswer words.now (D.state desk.old).files result text × Says (D.state desk.old) (D.state desk.new) text }
+    ensures answered { IsSettled result → (text : Text) × IsAnswer words.now (D.state desk.old).files result text × SaysOn D.state desk.old desk.new text }
 
     // The words are refused where they aren't `design` and a file, and only there.
     ensures words_only { result ≡ Status.Words WordFault.Command → net_word_of words.now ≡ None }
     ensures words { IsSettled result → net_word_of words.now ≡ None → result ≡ Status.Words WordFault.Command }
     ensures words_said { result ≡ Status.Words WordFault.Command
-        → Says (D.state desk.old) (D.state desk.new) (refusal_text (word_fault_text WordFault.Command)) }
+        → SaysOn D.state desk.old desk.new (refusal_text (word_fault_text WordFault.Command)) }
 
     // A file is refused for what is first wrong with its text, at its place, and for nothing else.
-    ensures refused_only { (fault : Fault) → result ≡ Status.Refused fault → (text : Text) → net_text words.now (D.state desk.old).files ≡ Some text
+    ensures refused_only { (fault : Fault) → result ≡ Status.Refused fault → (text : Text) → IsTold words.now (D.state desk.old).files text
         → IsRefused text fault }
-    ensures refused { IsSettled result → (text : Text) → net_text words.now (D.state desk.old).files ≡ Some text → (fault : Fault) → IsRefused text fault
+    ensures refused { IsSettled result → (text : Text) → IsTold words.now (D.state desk.old).files text → (fault : Fault) → IsRefused text fault
         → result ≡ Status.Refused fault }
     ensures refused_said { (fault : Fault) → result ≡ Status.Refused fault
-        → Says (D.state desk.old) (D.state desk.new) (refusal_text (input_fault_text fault)) }
+        → SaysOn D.state desk.old desk.new (refusal_text (input_fault_text fault)) }
 
-    // A layout is found where the text is that of an accepted module whose net is a chain, and only there,
+    // A layout is found where the text is that of an accepted module which is mapped to a chain, and only there,
     // and its report is said.
-    ensures found_only { (ratio : Sides) → result ≡ Status.Found ratio → (text : Text) → net_text words.now (D.state desk.old).files ≡ Some text
-        → (m : ModuleTree) × (k : ℕ) × IsLaidOut text m k × (ratio ≡ (column_of k).ratio) }
-    ensures found { IsSettled result → (text : Text) → net_text words.now (D.state desk.old).files ≡ Some text → (m : ModuleTree) (k : ℕ) → IsLaidOut text m k
-        → result ≡ Status.Found (column_of k).ratio }
-    ensures found_said { (ratio : Sides) → result ≡ Status.Found ratio → (text : Text) → net_text words.now (D.state desk.old).files ≡ Some text
-        → (m : ModuleTree) (k : ℕ) → IsLaidOut text m k → Says (D.state desk.old) (D.state desk.new) (report_of (net_of m) k) }
+    ensures found_only { (ratio : Sides) → result ≡ Status.Found ratio → (text : Text) → IsTold words.now (D.state desk.old).files text
+        → (m : ModuleTree) × IsLaidOut text m × (ratio ≡ (layout_of m).ratio) }
+    ensures found { IsSettled result → (text : Text) → IsTold words.now (D.state desk.old).files text → (m : ModuleTree) → IsLaidOut text m
+        → result ≡ Status.Found (layout_of m).ratio }
+    ensures found_said { (ratio : Sides) → result ≡ Status.Found ratio → (text : Text) → IsTold words.now (D.state desk.old).files text
+        → (m : ModuleTree) → IsLaidOut text m → (g : FormGrid) × IsGridOf m g × SaysOn D.state desk.old desk.new (report_text (report_for m g)) }
 
     // What the report prints is a sound layout that computes the module, and on each earlier ratio some node is late.
-    ensures layout { (ratio : Sides) → result ≡ Status.Found ratio → (text : Text) → net_text words.now (D.state desk.old).files ≡ Some text
-        → (m : ModuleTree) (k : ℕ) → IsLaidOut text m k → IsLayout (net_of m) (module_of m) (chain_network k) ratio (report_of (net_of m) k) }
+    ensures layout { (ratio : Sides) → result ≡ Status.Found ratio → (text : Text) → IsTold words.now (D.state desk.old).files text
+        → (m : ModuleTree) → IsLaidOut text m → (g : FormGrid) → IsGridOf m g → IsLayout (net_of m) (module_of m) (network_of m) ratio (report_for m g) }
 
     // A status that says anything of the file comes only where the file is there, and where nothing failed.
     ensures there { IsSettled result → (net : Text) → net_word_of words.now ≡ Some net → IsThere (D.state desk.old).files net }
@@ -103,10 +102,10 @@ fn serve<D: Desk>(alloc: Global, words: &[String], desk: &mut D) -> Status
         return refuse_words(desk);
     };
     match lay_out(alloc, net, desk) {
-        Ok(layout) => report(&layout, desk),
-        Err(NoLayout::Fault(fault)) => refuse(desk, fault),
-        Err(NoLayout::Unread) => Status::ReadFault(Which::NetFile),
-        Err(NoLayout::NoMemory) => Status::NoMemory,
+        Ok(design) => report(&design, desk),
+        Err(NoDesign::Fault(fault)) => refuse(desk, fault),
+        Err(NoDesign::Unread) => Status::ReadFault(Which::NetFile),
+        Err(NoDesign::NoMemory) => Status::NoMemory,
     }
 }
 
@@ -120,21 +119,15 @@ fn net_word(words: &[String]) -> Option<&str>
     }
 }
 
-// Says the report of a layout.
-fn report<D: Desk>(layout: &Layout, desk: &mut D) -> Status
-    requires chain { IsChain layout.now.net layout.now.inversions }
-    requires laid_out { layout.now.grid ≡ column_of layout.now.inversions }
-    ensures { EndsSaying (D.state desk.old) (D.state desk.new) (Status.Found layout.now.grid.ratio) (report_of layout.now.net layout.now.inversions) result }
+// Says the report of a design.
+fn report<D: Desk>(design: &Design, desk: &mut D) -> Status
+    requires { length design.now.layout.places ≡ length design.now.mapped.nodes }
+    ensures { EndsSaying (D.state desk.old) (D.state desk.new) (Status.Found design.now.grid.ratio)
+        (report_text (report_of design.now.net design.now.mapped design.now.layout.places design.now.grid)) result }
 {
     let mut piece = Piece::to_say();
-    match put_report(
-        &layout.net,
-        layout.inversions,
-        &layout.grid,
-        &mut piece,
-        desk,
-    ) {
-        Ok(()) => end(piece, desk, Status::Found(layout.grid.ratio())),
+    match put_report(design, &mut piece, desk) {
+        Ok(()) => end(piece, desk, Status::Found(design.grid.ratio())),
         Err(Failed) => Status::WriteFault(Which::Output),
     }
 }

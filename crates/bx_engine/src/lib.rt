@@ -2,17 +2,15 @@
 #![tactic(auto)]
 
 mod chain;
-pub mod column;
+mod column;
 mod design;
 mod engine;
-pub mod grid;
 pub mod laws;
+pub mod limits;
 mod refusal;
 mod report;
-mod say;
 mod status;
 
-pub use design::MODULE_BYTES;
 pub use engine::run;
 pub use status::{InputFault, Status, Which, WordFault};
 

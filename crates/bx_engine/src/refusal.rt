@@ -2,16 +2,16 @@
 //! definitions name for a fault; which fault an input has is left to its readers.
 ghost use Rattle.std.specs.Prelude.{◌≡◌, map, [], ◌∷◌, codes, decimal};
 ghost use Rattle.bx_desk.specs.Desk.{CanPut};
-ghost use Rattle.bx_desk.specs.Pieces.{target_of};
-ghost use Rattle.bx_engine.specs.Says.{PutsOut};
-ghost use Rattle.bx_engine.specs.Words.{word_text};
-ghost use Rattle.bx_engine.specs.Texts.{spaced, refusal_text, memory_text, which_text, construct_text, lex_fault_text, read_fault_text, net_fault_text, input_fault_text};
+ghost use Rattle.bx_desk.specs.Pieces.{target_of, PutsOut};
+ghost use Rattle.bx_says.specs.Texts.{spaced};
+ghost use Rattle.bx_says.specs.Words.{word_text};
+ghost use Rattle.bx_engine.specs.Said.{refusal_text, memory_text, which_text, construct_text, lex_fault_text, read_fault_text, net_fault_text, input_fault_text};
 
-use crate::say::{Word, put_spaced, put_word, put_words};
 use crate::status::{InputFault, Which};
 use bx_desk::{Desk, Failed, Piece};
 use bx_lex::LexFault;
 use bx_logic::Name;
+use bx_says::{Word, put_spaced, put_word, put_words};
 use bx_verilog::{Construct, NetFault, ReadFault};
 
 /// Puts out the line of a refusal, which names these words.
@@ -47,6 +47,8 @@ pub(crate) fn put_fault<D: Desk>(
         InputFault::Lex(fault) => put_lex_fault(*fault, piece, desk),
         InputFault::Read(fault) => put_read_fault(*fault, piece, desk),
         InputFault::Net(fault) => put_net_fault(fault, piece, desk),
+        InputFault::Constant(name) => put_named(b"constant", name, piece, desk),
+        InputFault::Nodes(count) => put_refusal(b"nodes", &[Word::Number(*count)], piece, desk),
         InputFault::NotBuilt => put_refusal(b"not built", &[], piece, desk),
     }
 }

@@ -4,6 +4,7 @@ ghost use Rattle.std.specs.Prelude.{◌≡◌};
 
 use bx_grid::Ratio;
 use bx_lex::LexFault;
+use bx_logic::Name;
 use bx_verilog::{NetFault, ReadFault};
 
 /// How a run ended.
@@ -35,7 +36,11 @@ pub enum InputFault {
     Read(ReadFault),
     /// Something is wrong with the module's ports, drivers or names, as `NetFault` says.
     Net(NetFault),
-    /// The net isn't of a form that is laid out yet.
+    /// This output always has one value, and no earlier one does.
+    Constant(Name),
+    /// The mapped network has so many nodes, more than are laid out.
+    Nodes(u64),
+    /// The mapped network isn't of a form that is laid out yet.
     NotBuilt,
 }
 

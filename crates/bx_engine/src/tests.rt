@@ -1,4 +1,5 @@
 use super::*;
+use crate::limits::MODULE_BYTES;
 use bx_desk::{Gate, MemDesk, OpenGate};
 use bx_logic::NoMemory;
 use std::alloc::Global;
@@ -23,7 +24,7 @@ fn desk_with(alloc: Global, text: &[u8]) -> Result<MemDesk, NoMemory> {
 }
 
 // The text of a file, the exit status, and what is said.
-const ROWS: [(&str, u8, &str); 7] = [
+const ROWS: [(&str, u8, &str); 11] = [
     (
         "module m(a, y); input a; output y; not (y, a); endmodule\n",
         0,
@@ -55,6 +56,26 @@ const ROWS: [(&str, u8, &str); 7] = [
         "module m\nnodes 4 edges 3\nfound 1 4\ninput a 0 0\noutput y 0 3\nrow 0 input_r\nrow 1 not_ll\nrow 2 not_rr\nrow 3 output_l\n",
     ),
     (
+        "module m(a, y); input a; output y; assign y = a ^ 1'b1; endmodule",
+        0,
+        "module m\nnodes 3 edges 2\nfound 1 3\ninput a 0 0\noutput y 0 2\nrow 0 input_r\nrow 1 not_ll\nrow 2 output_r\n",
+    ),
+    (
+        "module m(a, y); input a; output y; assign y = a & 1'h1; endmodule",
+        0,
+        "module m\nnodes 2 edges 1\nfound 1 2\ninput a 0 0\noutput y 0 1\nrow 0 input_r\nrow 1 output_l\n",
+    ),
+    (
+        "module m(a, b, y); input a, b; output y; buf (y, a); endmodule",
+        0,
+        "module m\nnodes 2 edges 1\nunused b\nfound 1 2\ninput a 0 0\noutput y 0 1\nrow 0 input_r\nrow 1 output_l\n",
+    ),
+    (
+        "module m(a, b, c, y); input a, b, c; output y; nor (y, b); endmodule",
+        0,
+        "module m\nnodes 3 edges 2\nunused a\nunused c\nfound 1 3\ninput b 0 0\noutput y 0 2\nrow 0 input_r\nrow 1 not_ll\nrow 2 output_r\n",
+    ),
+    (
         "// Benchmark \"top\"\nmodule top ( \\a[0] , b, c, y );\n  input  \\a[0] , b, c;\n  output y;\n  wire n1;\n  assign n1 = \\a[0]  & ~b;\n  assign y = ~n1;\nendmodule\n",
         1,
         "refused not built\n",
@@ -62,7 +83,7 @@ const ROWS: [(&str, u8, &str); 7] = [
 ];
 
 // Texts that are refused, each with its line.
-const REFUSED: [(&str, &str); 16] = [
+const REFUSED: [(&str, &str); 18] = [
     ("", "refused syntax 0\n"),
     ("/*", "refused lex comment 0\n"),
     ("module m(*", "refused lex attribute 8\n"),
@@ -94,15 +115,23 @@ const REFUSED: [(&str, &str); 16] = [
         "refused cycle n\n",
     ),
     (
-        "module m(a, y); input a; output y; assign y = 1'b0; endmodule",
-        "refused not built\n",
+        "module m(a, y); input a; output y; assign y = a & 1'b0; endmodule",
+        "refused constant y\n",
+    ),
+    (
+        "module m(a, x, \\y[0] , z); input a; output x, \\y[0] , z; assign x = a; or (\\y[0] , a, 1'b1); buf (z, 1'b0); endmodule",
+        "refused constant y[0]\n",
     ),
     (
         "module m(a, y); input a; output y; and (y, a, a); endmodule",
         "refused not built\n",
     ),
     (
-        "module m(a, b, y); input a, b; output y; buf (y, a); endmodule",
+        "module m(a, b, c, y); input a, b, c; output y; nand (y, a, b, c); endmodule",
+        "refused not built\n",
+    ),
+    (
+        "module m(a, b, y, z, w); input a, b; output y, z, w; and (n, a, b); assign y = n; assign z = n; not (w, n); endmodule",
         "refused not built\n",
     ),
     (
@@ -226,12 +255,12 @@ fn chain_of_not(alloc: Global, count: u32) -> Result<String, NoMemory> {
 }
 
 #[test]
-fn more_than_94_not_are_not_built(rt: HostRuntime) -> Result<(), Fail> {
+fn more_than_96_nodes_are_counted(rt: HostRuntime) -> Result<(), Fail> {
     let alloc = rt.alloc();
     let design = words(alloc, "design net.v")?;
     for (count, said) in [
         (94, "module m\nnodes 96 edges 95\nfound 1 96\n"),
-        (95, "refused not built\n"),
+        (95, "refused nodes 97\n"),
     ] {
         let text = chain_of_not(alloc, count)?;
         let mut desk = desk_with(alloc, text.as_bytes())?;

@@ -1,5 +1,5 @@
 //! What an input gives is one answer: a status, and what is said with it.
-ghost use Rattle.std.specs.Prelude.{◌≡◌, ◌⊎◌, ℕ, List, [], ◌∷◌, codes, Option, Some, None, String, string_bytes};
+ghost use Rattle.std.specs.Prelude.{◌≡◌, ◌⊎◌, List, [], ◌∷◌, codes, Option, Some, None, String, string_bytes};
 ghost use Rattle.std.specs.declared.alloc.Global.{Global};
 ghost use Rattle.bx_desk.specs.Desk.{Files};
 ghost use Rattle.bx_syntax.specs.Parts.{ModuleTree};
@@ -7,7 +7,8 @@ ghost use Rattle.bx_verilog.specs.Formulas.{Text};
 ghost use Rattle.bx_engine.specs.declared.status.InputFault.{InputFault};
 ghost use Rattle.bx_engine.specs.declared.status.Status.{Status};
 ghost use Rattle.bx_engine.specs.Statuses.{IsSettled};
-ghost use Rattle.bx_engine.specs.Runs.{net_word, net_text, IsRefused, IsLaidOut, IsAnswer};
+ghost use Rattle.bx_engine.specs.Told.{net_word, net_text};
+ghost use Rattle.bx_engine.specs.Answers.{IsRefused, IsLaidOut, IsAnswer};
 
 /// The words `design` and a file name this file, and its text is what the desk tells of it.
 pub fn two_words_name_a_file()
@@ -17,7 +18,7 @@ pub fn two_words_name_a_file()
 
 /// Each text is refused for some fault, or laid out in some way.
 pub fn each_text_has_an_answer()
-    ensures { (text : Text) → ((fault : InputFault) × IsRefused text fault) ⊎ ((m : ModuleTree) × (k : ℕ) × IsLaidOut text m k) }
+    ensures { (text : Text) → ((fault : InputFault) × IsRefused text fault) ⊎ ((m : ModuleTree) × IsLaidOut text m) }
 {}
 
 /// Words that name no file have one answer, and so have words and the text of the file that they name.

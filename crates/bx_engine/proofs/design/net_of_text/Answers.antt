@@ -1,4 +1,4 @@
-use Rattle.bx_engine.specs.Runs.{IsText}
+use Rattle.bx_engine.specs.Answers.{IsText}
 use Rattle.bx_engine.proofs.Designs.{ends_so, read_ends, net_ends}
 use Rattle.bx_engine.proofs.design.net_of_text.Goals as goal
 

@@ -1,7 +1,7 @@
 use Rattle.std.proofs.Common.{sym, ap}
 use Rattle.bx_lex.specs.declared.token.LexFault.{LexFault}
-use Rattle.bx_engine.specs.Texts.{lex_fault_text, refusal_text}
-use Rattle.bx_engine.proofs.Saying.{says_as}
+use Rattle.bx_engine.specs.Said.{lex_fault_text, refusal_text}
+use Rattle.bx_desk.proofs.Saying.{says_as}
 use Rattle.bx_engine.proofs.refusal.put_lex_fault.Goals as goal
 
 pub returns-in-OpenComment : goal.returns-in-OpenComment

@@ -1,4 +1,4 @@
-use Rattle.bx_engine.proofs.Saying.{says_then, says_failed, says_as}
+use Rattle.bx_desk.proofs.Saying.{says_then, says_failed, says_as}
 use Rattle.bx_engine.proofs.Lines.{refusal_is}
 use Rattle.bx_engine.proofs.refusal.put_refusal.Goals as goal
 

@@ -1,18 +1,15 @@
-use Rattle.std.proofs.Common.{◌≡◌, ◌++◌, ap, ◌∙◌}
-use Rattle.bx_engine.specs.Grids.{FormGrid}
-use Rattle.bx_engine.specs.Reports.{head_text, ports_text, rows_text, report_of}
-use Rattle.bx_engine.proofs.Saying.{says_then, says_failed, says_as}
-use Rattle.bx_engine.proofs.Lines.{report_is}
+use Rattle.bx_desk.proofs.Saying.{says_then, says_failed, says_as}
+use Rattle.bx_engine.proofs.Lines.{report_parts}
 use Rattle.bx_engine.proofs.report.put_report.Goals as goal
 
-pub returns-in_err-put_head : goal.returns-in_err-put_head
-returns-in_err-put_head g c = says_as _ _ _ _ _ _ _ (report_is c.args.net.now c.args.inversions) (says_failed _ _ _ _ _ _ _ _ _ c.in_err-put_head.was c.from_residual.ensures.0 c.put_head.ensures)
+pub returns-in_err-say_head : goal.returns-in_err-say_head
+returns-in_err-say_head g c = says_as _ _ _ _ _ _ _ (report_parts c.args.design.now.net c.args.design.now.mapped c.ratio-ratio.result c.args.design.now.layout.places c.as_slice-places.result.now c.args.design.now.grid c.ratio-ratio.ensures.same c.as_slice-places.ensures) (says_failed _ _ _ _ _ _ _ _ _ c.in_err-say_head.was c.from_residual.ensures.0 c.say_head.ensures)
 
-pub returns-in_err-put_ports : goal.returns-in_err-put_ports
-returns-in_err-put_ports g c = says_as _ _ _ _ _ _ _ (report_is c.args.net.now c.args.inversions) (says_then _ _ _ _ _ _ _ _ _ _ _ c.in_ok-put_head.was c.put_head.ensures (says_failed _ _ _ _ _ _ _ _ _ c.in_err-put_ports.was c.from_residual-in_err-put_ports.ensures.0 c.put_ports.ensures))
+pub returns-in_err-put_found : goal.returns-in_err-put_found
+returns-in_err-put_found g c = says_as _ _ _ _ _ _ _ (report_parts c.args.design.now.net c.args.design.now.mapped c.ratio-ratio.result c.args.design.now.layout.places c.as_slice-places.result.now c.args.design.now.grid c.ratio-ratio.ensures.same c.as_slice-places.ensures) (says_then _ _ _ _ _ _ _ _ _ _ _ c.in_ok-say_head.was c.say_head.ensures (says_failed _ _ _ _ _ _ _ _ _ c.in_err-put_found.was c.from_residual-in_err-put_found.ensures.0 c.put_found.ensures))
+
+pub returns-in_err-say_pins : goal.returns-in_err-say_pins
+returns-in_err-say_pins g c = says_as _ _ _ _ _ _ _ (report_parts c.args.design.now.net c.args.design.now.mapped c.ratio-ratio.result c.args.design.now.layout.places c.as_slice-places.result.now c.args.design.now.grid c.ratio-ratio.ensures.same c.as_slice-places.ensures) (says_then _ _ _ _ _ _ _ _ _ _ _ c.in_ok-say_head.was c.say_head.ensures (says_then _ _ _ _ _ _ _ _ _ _ _ c.in_ok-put_found.was c.put_found.ensures (says_failed _ _ _ _ _ _ _ _ _ c.in_err-say_pins.was c.from_residual-in_err-say_pins.ensures.0 c.say_pins.ensures)))
 
 pub returns : goal.returns
-returns g c =
-    let e : head_text c.args.net.now c.args.inversions ++ (ports_text c.args.net.now c.args.inversions ++ rows_text c.args.grid.now) ≡ report_of c.args.net.now c.args.inversions =
-    ap (λ (x : FormGrid). head_text c.args.net.now c.args.inversions ++ (ports_text c.args.net.now c.args.inversions ++ rows_text x)) c.requires.laid_out ∙ report_is c.args.net.now c.args.inversions in
-    says_as _ _ _ _ _ _ _ e (says_then _ _ _ _ _ _ _ _ _ _ _ c.in_ok-put_head.was c.put_head.ensures (says_then _ _ _ _ _ _ _ _ _ _ _ c.in_ok-put_ports.was c.put_ports.ensures c.put_rows.ensures))
+returns g c = says_as _ _ _ _ _ _ _ (report_parts c.args.design.now.net c.args.design.now.mapped c.ratio-ratio.result c.args.design.now.layout.places c.as_slice-places.result.now c.args.design.now.grid c.ratio-ratio.ensures.same c.as_slice-places.ensures) (says_then _ _ _ _ _ _ _ _ _ _ _ c.in_ok-say_head.was c.say_head.ensures (says_then _ _ _ _ _ _ _ _ _ _ _ c.in_ok-put_found.was c.put_found.ensures (says_then _ _ _ _ _ _ _ _ _ _ _ c.in_ok-say_pins.was c.say_pins.ensures c.say_rows.ensures)))

@@ -10,7 +10,7 @@ use Rattle.bx_cnf.specs.Literals.{Literal, negated}
 use Rattle.bx_cnf.specs.Formulas.{AscendAbove}
 use Rattle.bx_cnf.specs.Assignments.{IsFalse}
 use Rattle.bx_proof.specs.Steps.{Step}
-use Rattle.bx_check.specs.Accepted.{with_steps}
+use Rattle.bx_proof.specs.Accepted.{with_steps}
 use Rattle.bx_check.proofs.Lefts.{holds_at, get_take}
 
 pub get_append_right : {X : Type 0} (xs ys : List X) (i j : ℕ) → i ≡ length xs + j → slice_get (xs ++ ys) i ≡ slice_get ys j

@@ -6,7 +6,7 @@ use Rattle.std.specs.List.{AllByRecursion}
 use Rattle.std.specs.Prelude.{◌↔◌, slice_get, nat_eq}
 use Rattle.bx_cnf.specs.Literals.{Literal}
 use Rattle.bx_cnf.specs.Assignments.{IsClauseFalse, LeavesOne}
-use Rattle.bx_check.specs.Accepted.{LeadsToFalse}
+use Rattle.bx_proof.specs.Accepted.{LeadsToFalse}
 use Rattle.bx_check.proofs.Lefts.{one_item, not_false, one_left}
 
 pub at_false : (clauses : List (List Literal)) (trues : List Literal) (h : ℕ) (hs : List ℕ) (c : List Literal) → 0 < h → slice_get clauses (h - 1) ≡ Some c → IsClauseFalse trues c → LeadsToFalse clauses trues (h ∷ hs) ↔ (hs ≡ [])

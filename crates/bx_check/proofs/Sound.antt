@@ -10,7 +10,7 @@ use Rattle.bx_cnf.specs.Formulas.{Formula, IsClauseTrue, AllTrue}
 use Rattle.bx_cnf.proofs.Formulas.{true_at}
 use Rattle.bx_cnf.proofs.Propagation.{true_or_false, empty_never, conflict_sound, propagated_sound}
 use Rattle.bx_proof.specs.Steps.{Step, StepList}
-use Rattle.bx_check.specs.Accepted.{LeadsToFalse, Follows, with_steps, EachFollows, IsAccepted}
+use Rattle.bx_proof.specs.Accepted.{LeadsToFalse, Follows, with_steps, EachFollows, IsAccepted}
 
 -- a clause is true, or the negations of all its literals are
 true_or_refuted : (bits : List Bool) (clause : List Literal) → IsClauseTrue bits clause ⊎ All (IsLiteralTrue bits) (map negated clause)

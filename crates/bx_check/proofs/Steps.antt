@@ -9,7 +9,7 @@ use Rattle.std.specs.List.{AllByRecursion}
 use Rattle.std.specs.Option.{option_map}
 use Rattle.bx_cnf.specs.Literals.{Literal, negated}
 use Rattle.bx_proof.specs.Steps.{Step}
-use Rattle.bx_check.specs.Accepted.{LeadsToFalse, Follows, with_steps, AreShaped}
+use Rattle.bx_proof.specs.Accepted.{LeadsToFalse, Follows, with_steps, AreShaped}
 use Rattle.bx_check.proofs.Leads.{same_leads}
 use Rattle.bx_check.proofs.Clauses.{step_at, earlier_clause}
 

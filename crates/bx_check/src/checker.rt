@@ -3,7 +3,7 @@ ghost use Rattle.std.specs.Prelude.{◌≡◌, ◌+◌, ◌-◌, ◌++◌, ◌<�
 ghost use Rattle.bx_cnf.specs.Literals.{negated};
 ghost use Rattle.bx_cnf.specs.Formulas.{AscendAbove, AllTrue};
 ghost use Rattle.bx_proof.specs.Steps.{Step};
-ghost use Rattle.bx_check.specs.Accepted.{LeadsToFalse, with_steps, EachFollows, AreShaped, Follows, IsAccepted};
+ghost use Rattle.bx_proof.specs.Accepted.{LeadsToFalse, with_steps, EachFollows, AreShaped, Follows, IsAccepted};
 
 use crate::assignment::Assignment;
 use crate::left::{Left, left_of};

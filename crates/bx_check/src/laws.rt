@@ -4,7 +4,7 @@ ghost use Rattle.std.specs.Prelude.{List, Bool};
 ghost use Rattle.bx_cnf.specs.Literals.{Literal};
 ghost use Rattle.bx_cnf.specs.Formulas.{Formula, IsClauseTrue, AllTrue};
 ghost use Rattle.bx_proof.specs.Steps.{Step, StepList};
-ghost use Rattle.bx_check.specs.Accepted.{Follows, IsAccepted};
+ghost use Rattle.bx_proof.specs.Accepted.{Follows, IsAccepted};
 
 /// Bits that make clauses true make the clause of each step true that follows from them.
 pub fn a_step_that_follows_is_true_where_the_clauses_are()

@@ -1,7 +1,7 @@
 use Rattle.std.proofs.Common.{◌≡◌, ℕ, ◌<◌, [], take, Some}
 use Rattle.std.specs.Prelude.{slice_get}
 use Rattle.bx_proof.specs.Steps.{Step}
-use Rattle.bx_check.specs.Accepted.{Follows, with_steps}
+use Rattle.bx_proof.specs.Accepted.{Follows, with_steps}
 use Rattle.bx_check.proofs.checker.each_follows.Given as goal
 
 abbrev pub invariant-loop-k : goal.invariant-loop-k

@@ -1,5 +1,5 @@
 use Rattle.std.proofs.Common.{◌<◌, ◌≤◌, length, ap, arith}
-use Rattle.bx_check.specs.Accepted.{with_steps}
+use Rattle.bx_proof.specs.Accepted.{with_steps}
 use Rattle.bx_check.specs.Taken.{Taken}
 use Rattle.bx_check.proofs.Lefts.{holds_at}
 use Rattle.bx_check.proofs.Leads.{ends_at, goes_on_at, stops_at}

@@ -1,5 +1,5 @@
 use Rattle.std.proofs.Common.{◌≡◌, drop}
-use Rattle.bx_check.specs.Accepted.{LeadsToFalse, with_steps}
+use Rattle.bx_proof.specs.Accepted.{LeadsToFalse, with_steps}
 use Rattle.bx_check.proofs.checker.lead_to_false.Given as goal
 
 abbrev pub invariant-loop-k : goal.invariant-loop-k

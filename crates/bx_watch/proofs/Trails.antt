@@ -37,7 +37,7 @@ either false true = inr refl
 either false false = inl refl
 
 -- a literal over a free variable is over none of the trail's
-fresh : (trail : List Literal) (l m : Literal) → IsFree trail l → Contains trail m → m.var ≢ l.var
+pub fresh : (trail : List Literal) (l m : Literal) → IsFree trail l → Contains trail m → m.var ≢ l.var
 fresh trail l m free has same = elim (either m.positive l.positive) [
   | inl e ↦ free.0 (subst (Contains trail) (literal-same m l same e) has)
   | inr e ↦ free.1 (subst (Contains trail) (literal-same m (negated l) same e) has)

@@ -1,0 +1,35 @@
+//! Laws about the definitions alone, each the clause of a function with an empty body. Nothing here
+//! runs.
+ghost use Rattle.std.specs.Prelude.{◌≡◌, ℕ, ◌<◌, ◌≤◌, List, length, All};
+ghost use Rattle.bx_cnf.specs.Literals.{Literal};
+ghost use Rattle.bx_cnf.specs.Formulas.{Formula};
+ghost use Rattle.bx_proof.specs.Steps.{StepList};
+ghost use Rattle.bx_proof.specs.Accepted.{EachFollows};
+ghost use Rattle.bx_search.specs.States.{Assigned, State, clauses_of, current_level};
+ghost use Rattle.bx_search.specs.Learning.{treated_from, of_level};
+ghost use Rattle.bx_search.specs.Searching.{After, IsSearch};
+ghost use Rattle.bx_search.specs.declared.outcome.Outcome.{Outcome};
+ghost use Rattle.bx_search.specs.declared.outcome.Outcome.TheVariants.{Unsat};
+
+/// No literal of level 0 is kept in a learned clause.
+pub fn nothing_of_level_0_is_kept()
+    ensures { (clauses : List (List Literal)) (trail : List Assigned) (id : ℕ) → All (λ a. 0 < a.level) (treated_from clauses trail id).kept }
+{}
+
+/// In a state that the search reaches, at most one literal of the current level is kept.
+pub fn one_of_the_current_level_is_kept()
+    ensures { (formula : Formula) (budget events : ℕ) (s : State) (id : ℕ) → After formula budget events s
+        → length (of_level (current_level s.trail) (treated_from (clauses_of formula s) s.trail id).kept) ≤ 1 }
+{}
+
+/// The search of a formula within a budget has one end, and learns one number of clauses on the way.
+pub fn the_search_has_one_end()
+    ensures { (formula : Formula) (budget m n : ℕ) (end other : Outcome) → IsSearch formula budget end m → IsSearch formula budget other n → (end ≡ other) × (m ≡ n) }
+{}
+
+/// Each clause that the search learns follows, by its hints, from those of the formula and those learned
+/// before it; so does the empty clause at the end.
+pub fn each_learned_clause_follows()
+    ensures learned { (formula : Formula) (budget events : ℕ) (s : State) → After formula budget events s → EachFollows formula.clauses s.steps }
+    ensures log { (formula : Formula) (budget count : ℕ) (log : StepList) → IsSearch formula budget (Unsat log) count → EachFollows formula.clauses log.steps }
+{}

@@ -23,7 +23,7 @@ use Rattle.bx_search.proofs.Rising.{Rises, rises-after, falls-reversed}
 use Rattle.bx_search.proofs.Backed.{IsReason, IsBacked, IsNew, AreBacked, backed-more, backed-up_to}
 use Rattle.bx_search.proofs.Leading.{onto-left, on-reversed, learned-follows}
 
-from-reversed : (trail : List Assigned) (b : Assigned) → Member b (reverse trail) → Member b trail
+pub from-reversed : (trail : List Assigned) (b : Assigned) → Member b (reverse trail) → Member b trail
 from-reversed trail b h = subst (Member b) (reverse-reverse trail) (onto-left b (reverse trail) [] h)
 
 pushed : (clauses : List (List Literal)) (trail : List Assigned) (a : Assigned) → IsBacked clauses (reverse trail) a.literal a.level a.reason → IsNew a.literal (reverse trail)
@@ -103,12 +103,12 @@ conflict-follows formula budget events s id step after conflict =
     conflict.least.above conflict.least.stands conflict.least.is_so conflict.learned
 
 -- one step more
-get-front : {X : Type 0} (xs ys : List X) (k : ℕ) → k < length xs → slice_get (xs ++ ys) k ≡ slice_get xs k
+pub get-front : {X : Type 0} (xs ys : List X) (k : ℕ) → k < length xs → slice_get (xs ++ ys) k ≡ slice_get xs k
 get-front [] ys k l = absurd (omega (arith, l))
 get-front (x ∷ xs) ys zero l = refl
 get-front (x ∷ xs) ys (suc k) l = get-front xs ys k (omega (arith, l))
 
-get-last : {X : Type 0} (xs : List X) (y : X) (k : ℕ) → k ≡ length xs → slice_get (xs ++ y ∷ []) k ≡ Some y
+pub get-last : {X : Type 0} (xs : List X) (y : X) (k : ℕ) → k ≡ length xs → slice_get (xs ++ y ∷ []) k ≡ Some y
 get-last [] y zero e = refl
 get-last [] y (suc k) e = absurd (omega (arith, e))
 get-last (x ∷ xs) y zero e = absurd (omega (arith, e))

@@ -38,7 +38,7 @@ is-marked (w ∷ marked) v b (inr h) e = rw (is-marked marked v b h e) (or-true 
 more-marked : (marked added : List ℕ) (b : Assigned) → is_marked marked b ≡ true → is_marked (marked ++ added) b ≡ true
 more-marked marked added b m = list_any-append (λ var. var == b.literal.var) marked added ∙ rw m refl
 
-in-clause : (clause : List Literal) (k : ℕ) (m : Literal) → slice_get clause k ≡ Some m → Member m clause
+pub in-clause : (clause : List Literal) (k : ℕ) (m : Literal) → slice_get clause k ≡ Some m → Member m clause
 in-clause clause k m e =
     subst (λ (x : Literal). Member x clause) (get_or_from_slice_get clause k m m e) (Member-get_or clause k m (slice_get_within clause k m e))
 
@@ -131,7 +131,7 @@ leads clauses current whole marked (a ∷ before) trues hints apart part backed 
         subst (LeadsToFalse clauses trues) (sym (append_assoc walk.reasons (id ∷ []) hints)) rest
 
 -- what is kept stands on the trail
-kept-within : (clauses : List (List Literal)) (current : ℕ) (marked : List ℕ) (trail : List Assigned) (a : Assigned) → Member a (treated clauses current marked trail).kept → Member a trail
+pub kept-within : (clauses : List (List Literal)) (current : ℕ) (marked : List ℕ) (trail : List Assigned) (a : Assigned) → Member a (treated clauses current marked trail).kept → Member a trail
 kept-within clauses current marked [] a = λ h. h
 kept-within clauses current marked (b ∷ before) a =
     by_treatment (λ t. Member a t.kept → Member a (b ∷ before)) (is_marked marked b) (is_replaced current marked before b)

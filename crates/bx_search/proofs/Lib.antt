@@ -4,3 +4,4 @@ pub mod OneEnd
 pub mod Backed
 pub mod Leading
 pub mod Following
+pub mod Accepting

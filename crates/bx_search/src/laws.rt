@@ -2,9 +2,9 @@
 //! runs.
 ghost use Rattle.std.specs.Prelude.{◌≡◌, ℕ, ◌<◌, ◌≤◌, List, length, All};
 ghost use Rattle.bx_cnf.specs.Literals.{Literal};
-ghost use Rattle.bx_cnf.specs.Formulas.{Formula};
+ghost use Rattle.bx_cnf.specs.Formulas.{Formula, IsFormula};
 ghost use Rattle.bx_proof.specs.Steps.{StepList};
-ghost use Rattle.bx_proof.specs.Accepted.{EachFollows};
+ghost use Rattle.bx_proof.specs.Accepted.{EachFollows, IsAccepted};
 ghost use Rattle.bx_search.specs.States.{Assigned, State, clauses_of, current_level};
 ghost use Rattle.bx_search.specs.Learning.{treated_from, of_level};
 ghost use Rattle.bx_search.specs.Searching.{After, IsSearch};
@@ -32,4 +32,9 @@ pub fn the_search_has_one_end()
 pub fn each_learned_clause_follows()
     ensures learned { (formula : Formula) (budget events : ℕ) (s : State) → After formula budget events s → EachFollows formula.clauses s.steps }
     ensures log { (formula : Formula) (budget count : ℕ) (log : StepList) → IsSearch formula budget (Unsat log) count → EachFollows formula.clauses log.steps }
+{}
+
+/// The log of a search that ends with the empty clause is accepted, so nothing solves its formula.
+pub fn a_log_is_accepted()
+    ensures { (formula : Formula) (budget count : ℕ) (log : StepList) → IsFormula formula → IsSearch formula budget (Unsat log) count → IsAccepted formula log }
 {}

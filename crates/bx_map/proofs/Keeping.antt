@@ -239,7 +239,7 @@ place-within (x ∷ xs) a h =
       | inr m ↦ let here = one-most (nat_lt x a) in let rest = place-within xs a m in omega (arith, here, rest)
     ]
 
-place-all : (xs : List ℕ) (a : ℕ) → AllByRecursion (λ x. x < a) xs → place_of xs a ≡ length xs
+pub place-all : (xs : List ℕ) (a : ℕ) → AllByRecursion (λ x. x < a) xs → place_of xs a ≡ length xs
 place-all [] a h = refl
 place-all (x ∷ xs) a h =
     let here = ap one_if (lt-ltb x a h.0) in

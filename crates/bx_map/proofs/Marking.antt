@@ -1,22 +1,12 @@
 -- Marks of the numbers of a list: one number more, and many.
 use Rattle.std.proofs.Common.{◌≡◌, ℕ, ◌<◌, ◌==◌, Bool, true, false, ◌||◌, List, [], ◌∷◌, ◌++◌, length, set, get_or, replicate, refl, sym, ◌∙◌, ap, subst, arith, inl, inr}
 use Rattle.std.specs.List.{AllByRecursion}
+use Rattle.std.proofs.Math.Bool.{or-false, or-true}
 use Rattle.std.proofs.lemmas.Bool.{cases_eq, eq-eqb, ne_eqb}
 use Rattle.std.proofs.lemmas.List.{length-set, get_or-set_same, get_or-set_other, get_or-replicate, length-replicate}
 use Rattle.std.proofs.lemmas.List.Folds.{list_any-append}
 use Rattle.bx_map.specs.Walks.{has}
 use Rattle.bx_map.specs.Marks.{AreMarks, marked}
-
-pub or-same : (a b c d : Bool) → a ≡ c → b ≡ d → (a || b) ≡ (c || d)
-or-same a b c d e f = cc
-
-or-false : (a : Bool) → (a || false) ≡ a
-or-false true = refl
-or-false false = refl
-
-or-true : (a : Bool) → (a || true) ≡ true
-or-true true = refl
-or-true false = refl
 
 or-middle : (a b c : Bool) → (a || (b || c)) ≡ ((b || a) || c)
 or-middle true true c = refl

@@ -1,9 +1,10 @@
 -- The cells that stay, one after the other: which are marked, how many there are before each, and what
 -- is kept of the first so many.
-use Rattle.std.proofs.Common.{◌≡◌, ℕ, zero, suc, ◌+◌, ◌<◌, ◌≤◌, ◌==◌, nat_lt, Bool, true, false, ◌||◌, ◌&&◌, if◌then◌else◌, List, [], ◌∷◌, ◌++◌, length, map, take, get_or, replicate, refl, sym, ◌∙◌, ap, subst, arith, inl, inr}
+use Rattle.std.proofs.Common.{◌≡◌, ℕ, zero, suc, ◌+◌, ◌<◌, ◌≤◌, ◌==◌, nat_lt, Bool, true, false, ◌||◌, if◌then◌else◌, List, [], ◌∷◌, ◌++◌, length, map, take, get_or, replicate, refl, sym, ◌∙◌, ap, subst, arith, inl, inr}
 use Rattle.std.specs.List.{AllByRecursion}
+use Rattle.std.proofs.Math.Bool.{and-true}
 use Rattle.std.proofs.Math.Seq.{take-suc}
-use Rattle.std.proofs.lemmas.Bool.{cases_eq, cases_lt, eq-eqb, ne_eqb, lt-ltb, le-ltb}
+use Rattle.std.proofs.lemmas.Bool.{cases_eq, cases_lt, eq-eqb, ne_eqb, le-ltb}
 use Rattle.std.proofs.lemmas.List.{append-nil, append_assoc, length-append, length-map, length-take, take_all, map-append, get_or-replicate, get_or_append_left, get_or_at}
 use Rattle.bx_map.specs.declared.cell.Cell.{Cell}
 use Rattle.bx_map.specs.declared.cell.Cell.TheVariants.{Input, Not, Gate}
@@ -12,7 +13,7 @@ use Rattle.bx_map.specs.Walks.{has}
 use Rattle.bx_map.specs.Drops.{AreRanks, staying, stay_of, rank, kept, dropped}
 use Rattle.bx_map.specs.Marks.{AreMarks, marked}
 use Rattle.bx_map.proofs.Tallies.{one_if, tally, tally-sum, tally-append, one_below}
-use Rattle.bx_map.proofs.Keeping.{Rising, none, more, staying-wants, staying-lacks, staying-within, staying-rises, place_of, place-most, rank-is, at-rank}
+use Rattle.bx_map.proofs.Keeping.{Rising, none, more, staying-wants, staying-lacks, staying-within, staying-rises, place_of, place-most, place-all, rank-is, at-rank}
 use Rattle.bx_map.proofs.Marking.{has-both, has-behind, marked-at, marked-length}
 use Rattle.bx_map.proofs.Numbering.{all-weaker}
 
@@ -134,10 +135,6 @@ one-at _ (more xs n below rises) i =
           omega (arith, before, off, goal)
     ])
 
-and-true : (b : Bool) → (b && true) ≡ b
-and-true true = refl
-and-true false = refl
-
 pub place-next : (xs : List ℕ) → Rising xs → (i : ℕ) → place_of xs (suc i) ≡ place_of xs i + one_if (has xs i)
 place-next xs rises i =
     let step = tally-sum (λ j. nat_lt j (suc i)) (λ j. nat_lt j i) (λ j. j == i) (λ j. one j) xs in
@@ -214,13 +211,6 @@ module _ (net : CellNet) where
       let stay : List ℕ = stay_of net in
       let many = rank-is stay (length net.cells) ∙ place-all stay (length net.cells) (staying-within net.cells (length net.cells) net.outputs) in
       ap (map (λ k. renumbered (rank stay) (cell_at net.cells k))) (take_all (rank stay (length net.cells)) stay (omega (arith, many)))
-    where
-      place-all : (xs : List ℕ) (a : ℕ) → AllByRecursion (λ x. x < a) xs → place_of xs a ≡ length xs
-      place-all [] a all = refl
-      place-all (x ∷ xs) a all =
-          let here = ap one_if (lt-ltb x a all.0) in
-          let rest = place-all xs a all.1 in
-          omega (arith, here, rest)
 
 pub ranks-push : (n r : ℕ) (stay ranks : List ℕ) → AreRanks n stay ranks → r ≡ rank stay n → AreRanks (n + 1) stay (ranks ++ r ∷ [])
 ranks-push n r stay ranks h e =

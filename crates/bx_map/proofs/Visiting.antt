@@ -13,6 +13,7 @@ use Rattle.bx_logic.proofs.Valuations.{cost, cost-is}
 use Rattle.bx_map.specs.declared.walk.Frame.{Frame}
 use Rattle.bx_map.specs.Walks.{has, visit, walk}
 use Rattle.bx_map.specs.Marks.{AreMarks, frame_for}
+use Rattle.bx_map.proofs.Numbering.{all-append}
 use Rattle.bx_map.proofs.Walking.{visit-is, visit-was, arguments-within, Ordered, none, more, walk-visits}
 
 -- a net's depth doesn't matter where it is enough
@@ -79,10 +80,6 @@ frame_cost drivers f = 1 + sum_by (cost drivers) (drop f.next (reads_of drivers 
 
 pub way_cost : List Driver → List Frame → ℕ
 way_cost drivers fs = sum_by (frame_cost drivers) fs
-
-all-append : (P : Frame → Type 0) (fs gs : List Frame) → AllByRecursion P fs → AllByRecursion P gs → AllByRecursion P (fs ++ gs)
-all-append P [] gs a b = b
-all-append P (f ∷ fs) gs a b = (a.0, all-append P fs gs a.1 b)
 
 all-left : (P : Frame → Type 0) (fs gs : List Frame) → AllByRecursion P (fs ++ gs) → AllByRecursion P fs
 all-left P [] gs a = tt

@@ -38,9 +38,6 @@ module _ (N : Network) (net : IsNetwork N) (few : length N.nodes ≤ MOST_NODES)
     enters : passes.edge.target ≡ t
     by : passes.edge.operand ≡ operand
 
-  Passes : ℕ → ℕ → Type 0
-  Passes operand t = (e : ℕ) × IsPassing operand t e
-
   bits-say : (operand : ℕ) (entered : List ℕ) → AreRowsOf (EntersFromAbove N.edges operand) entered → (t : ℕ) → t < MOST_NODES → HasBit (passing_bits below entered u v) t → (e : ℕ) × IsPassing operand t e
   bits-say operand entered rows t low has =
       let (up, down) = (bit-and (bit_or (get_or entered u 0) (get_or entered v 0)) (bit_and (get_or below u 0) (get_or below v 0)) t).0 has in

@@ -7,21 +7,48 @@ use bx_network::{Edge, MappedNet, Node};
 use std::alloc::Global;
 use std::test::Fail;
 
+const INPUT: Node = Node {
+    kind: Kind::Input,
+    port: 0,
+};
+
+const OTHER_INPUT: Node = Node {
+    kind: Kind::Input,
+    port: 1,
+};
+
+const OUTPUT: Node = Node {
+    kind: Kind::Output,
+    port: 0,
+};
+
+const OTHER_OUTPUT: Node = Node {
+    kind: Kind::Output,
+    port: 1,
+};
+
+const NOT: Node = Node {
+    kind: Kind::Not,
+    port: 0,
+};
+
+const FAN: Node = Node {
+    kind: Kind::Fan,
+    port: 0,
+};
+
+const AND: Node = Node {
+    kind: Kind::And,
+    port: 0,
+};
+
+const XOR: Node = Node {
+    kind: Kind::Xor,
+    port: 0,
+};
+
 // not (y, a).
-const INVERTER_NODES: [Node; 3] = [
-    Node {
-        kind: Kind::Input,
-        port: 0,
-    },
-    Node {
-        kind: Kind::Not,
-        port: 0,
-    },
-    Node {
-        kind: Kind::Output,
-        port: 0,
-    },
-];
+const INVERTER_NODES: [Node; 3] = [INPUT, NOT, OUTPUT];
 
 const INVERTER_EDGES: [Edge; 2] = [
     Edge {
@@ -39,24 +66,7 @@ const INVERTER_EDGES: [Edge; 2] = [
 ];
 
 // and (y, a, b).
-const CONJUNCTION_NODES: [Node; 4] = [
-    Node {
-        kind: Kind::Input,
-        port: 0,
-    },
-    Node {
-        kind: Kind::Input,
-        port: 1,
-    },
-    Node {
-        kind: Kind::And,
-        port: 0,
-    },
-    Node {
-        kind: Kind::Output,
-        port: 0,
-    },
-];
+const CONJUNCTION_NODES: [Node; 4] = [INPUT, OTHER_INPUT, AND, OUTPUT];
 
 const CONJUNCTION_EDGES: [Edge; 3] = [
     Edge {
@@ -80,40 +90,7 @@ const CONJUNCTION_EDGES: [Edge; 3] = [
 ];
 
 // xor (s, a, b); and (c, a, b).
-const HALF_ADDER_NODES: [Node; 8] = [
-    Node {
-        kind: Kind::Input,
-        port: 0,
-    },
-    Node {
-        kind: Kind::Fan,
-        port: 0,
-    },
-    Node {
-        kind: Kind::Input,
-        port: 1,
-    },
-    Node {
-        kind: Kind::Fan,
-        port: 0,
-    },
-    Node {
-        kind: Kind::Xor,
-        port: 0,
-    },
-    Node {
-        kind: Kind::And,
-        port: 0,
-    },
-    Node {
-        kind: Kind::Output,
-        port: 0,
-    },
-    Node {
-        kind: Kind::Output,
-        port: 1,
-    },
-];
+const HALF_ADDER_NODES: [Node; 8] = [INPUT, FAN, OTHER_INPUT, FAN, XOR, AND, OUTPUT, OTHER_OUTPUT];
 
 const HALF_ADDER_EDGES: [Edge; 8] = [
     Edge {
@@ -167,32 +144,7 @@ const HALF_ADDER_EDGES: [Edge; 8] = [
 ];
 
 // y is the inversion of a & ~b.
-const UNUSED_NODES: [Node; 6] = [
-    Node {
-        kind: Kind::Input,
-        port: 0,
-    },
-    Node {
-        kind: Kind::Input,
-        port: 1,
-    },
-    Node {
-        kind: Kind::Not,
-        port: 0,
-    },
-    Node {
-        kind: Kind::And,
-        port: 0,
-    },
-    Node {
-        kind: Kind::Not,
-        port: 0,
-    },
-    Node {
-        kind: Kind::Output,
-        port: 0,
-    },
-];
+const UNUSED_NODES: [Node; 6] = [INPUT, OTHER_INPUT, NOT, AND, NOT, OUTPUT];
 
 const UNUSED_EDGES: [Edge; 5] = [
     Edge {
@@ -228,24 +180,7 @@ const UNUSED_EDGES: [Edge; 5] = [
 ];
 
 // and (y, a, a), where two edges lead from the fan to the gate.
-const TWICE_NODES: [Node; 4] = [
-    Node {
-        kind: Kind::Input,
-        port: 0,
-    },
-    Node {
-        kind: Kind::Fan,
-        port: 0,
-    },
-    Node {
-        kind: Kind::And,
-        port: 0,
-    },
-    Node {
-        kind: Kind::Output,
-        port: 0,
-    },
-];
+const TWICE_NODES: [Node; 4] = [INPUT, FAN, AND, OUTPUT];
 
 const TWICE_EDGES: [Edge; 4] = [
     Edge {

@@ -1,0 +1,11 @@
+pub mod Numbering
+pub mod Windows
+pub mod Rising
+pub mod Adding
+pub mod Lists
+pub mod Shapes
+pub mod Entering
+pub mod Passing
+pub mod Barring
+pub mod Framing
+pub mod Marking

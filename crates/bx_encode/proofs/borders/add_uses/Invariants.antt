@@ -1,0 +1,10 @@
+-- The clauses so far.
+use Rattle.std.proofs.Common.{[], ◌∷◌, map}
+use Rattle.std.specs.List.{range_with_len}
+use Rattle.bx_encode.specs.declared.variable.Variable.TheVariants.{Used, EdgeOn}
+use Rattle.bx_encode.specs.Variables.{is, isnt}
+use Rattle.bx_encode.specs.Sizes.{Adds}
+use Rattle.bx_encode.proofs.borders.add_uses.Given as goal
+
+abbrev pub invariant-loop-e : goal.invariant-loop-e
+invariant-loop-e l = Adds l.initial.clauses l.clauses (map (λ e. is l.net l.ratio (Used l.b) ∷ isnt l.net l.ratio (EdgeOn e l.b) ∷ []) (range_with_len 0 l.e))

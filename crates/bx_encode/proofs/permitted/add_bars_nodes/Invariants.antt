@@ -1,0 +1,10 @@
+-- The clauses so far.
+use Rattle.std.proofs.Common.{filter}
+use Rattle.std.specs.Prelude.{slice_get}
+use Rattle.std.specs.List.{range_with_len}
+use Rattle.bx_encode.specs.Families.{each, has_kind, bars_node}
+use Rattle.bx_encode.specs.Sizes.{Adds}
+use Rattle.bx_encode.proofs.permitted.add_bars_nodes.Given as goal
+
+abbrev pub invariant-loop-v : goal.invariant-loop-v
+invariant-loop-v l = Adds l.initial.clauses l.clauses (each (filter (λ v. has_kind l.kind (slice_get l.net.nodes v)) (range_with_len 0 l.v)) (bars_node l.net l.ratio l.spot.tile l.spot.upper l.spot.lower l.kind))

@@ -1,0 +1,10 @@
+-- The clauses so far.
+use Rattle.std.proofs.Common.{filter, not}
+use Rattle.std.specs.List.{range_with_len}
+use Rattle.bx_layout.specs.Permits.{test_of}
+use Rattle.bx_encode.specs.Families.{each, bars}
+use Rattle.bx_encode.specs.Sizes.{Adds}
+use Rattle.bx_encode.proofs.permitted.add_is_permitted.Given as goal
+
+abbrev pub invariant-loop-t : goal.invariant-loop-t
+invariant-loop-t l = Adds l.initial.clauses l.clauses (each (range_with_len 0 l.t) (λ t. each (filter (λ form. not (test_of l.permit l.ratio t form)) (range_with_len 0 28)) (bars l.net l.ratio t)))

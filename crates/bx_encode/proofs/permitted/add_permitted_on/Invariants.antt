@@ -1,0 +1,10 @@
+-- The clauses so far.
+use Rattle.std.proofs.Common.{filter, not}
+use Rattle.std.specs.List.{range_with_len}
+use Rattle.bx_layout.specs.Permits.{test_of}
+use Rattle.bx_encode.specs.Families.{each, bars}
+use Rattle.bx_encode.specs.Sizes.{Adds}
+use Rattle.bx_encode.proofs.permitted.add_permitted_on.Given as goal
+
+abbrev pub invariant-loop-number : goal.invariant-loop-number
+invariant-loop-number l = Adds l.initial.clauses l.clauses (each (filter (λ form. not (test_of l.permit l.ratio l.t form)) (range_with_len 0 l.number)) (bars l.net l.ratio l.t))

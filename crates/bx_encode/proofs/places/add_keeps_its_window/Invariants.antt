@@ -1,0 +1,13 @@
+-- The clauses so far.
+use Rattle.std.proofs.Common.{[], ◌∷◌, map, filter, not}
+use Rattle.std.specs.List.{range_with_len}
+use Rattle.bx_grid.specs.Tiles.{y_of}
+use Rattle.bx_encode.specs.declared.variable.Variable.TheVariants.{NodeOn}
+use Rattle.bx_encode.specs.Variables.{isnt}
+use Rattle.bx_encode.specs.Windows.{in_window}
+use Rattle.bx_encode.specs.Families.{each, tiles}
+use Rattle.bx_encode.specs.Sizes.{Adds}
+use Rattle.bx_encode.proofs.places.add_keeps_its_window.Given as goal
+
+abbrev pub invariant-loop-v : goal.invariant-loop-v
+invariant-loop-v l = Adds l.initial.clauses l.clauses (each (range_with_len 0 l.v) (λ v. map (λ t. isnt l.net l.ratio (NodeOn v t) ∷ []) (filter (λ t. not (in_window l.net v (y_of l.ratio t) l.ratio.h)) (tiles l.net l.ratio))))

@@ -1,0 +1,11 @@
+-- The clauses so far.
+use Rattle.std.proofs.Common.{[], ◌∷◌, map}
+use Rattle.std.specs.List.{range_with_len}
+use Rattle.bx_encode.specs.declared.variable.Variable.TheVariants.{NodeOn, Taken}
+use Rattle.bx_encode.specs.Variables.{is, isnt}
+use Rattle.bx_encode.specs.Families.{each, nodes}
+use Rattle.bx_encode.specs.Sizes.{Adds}
+use Rattle.bx_encode.proofs.places.add_takes_its_tile.Given as goal
+
+abbrev pub invariant-loop-t : goal.invariant-loop-t
+invariant-loop-t l = Adds l.initial.clauses l.clauses (each (range_with_len 0 l.t) (λ t. map (λ v. isnt l.net l.ratio (NodeOn v t) ∷ is l.net l.ratio (Taken t) ∷ []) (nodes l.net l.ratio)))

@@ -1,0 +1,109 @@
+//! The bits of a layout: for each variable whether what it says holds. They are set node by node and border
+//! by border.
+ghost use Rattle.std.specs.Prelude.{◌≡◌, ◌≤◌, ◌<◌, ◌-◌, ◌+◌, true, length, slice_set, Some, IfSome, IfOk};
+ghost use Rattle.bx_grid.specs.Tiles.{tile_count, IsTile};
+ghost use Rattle.bx_layout.specs.Layouts.{Stands, edge_on as edge_of};
+ghost use Rattle.bx_layout.specs.Legal.{IsPlaced, IsLegal};
+ghost use Rattle.bx_layout.specs.Permits.{all_forms};
+ghost use Rattle.bx_encode.specs.Variables.{IsVariable, border_count, variable_count, number as number_of};
+ghost use Rattle.bx_encode.specs.Bits.{AreBitsOf, AreBitsSoFar};
+ghost use Rattle.bx_encode.specs.Sizes.{IsFrame};
+
+use crate::formula::counted;
+use crate::numbers::{MOST_AREA, MOST_NODES, node_count, number, tile_count as tiles_of};
+use crate::variable::Variable;
+use bx_grid::Ratio;
+use bx_layout::Layout;
+use bx_logic::NoMemory;
+use bx_network::MappedNet;
+use std::alloc::Global;
+
+/// The bits of a layout, one for each variable of its ratio's formula: whether what it says holds.
+pub fn bits_of(alloc: Global, net: &MappedNet, layout: &Layout) -> Result<Vec<bool>, NoMemory>
+    requires legal { IsLegal net.now all_forms layout.now }
+    requires nodes { length net.now.nodes ≤ MOST_NODES }
+    requires area { tile_count layout.now.ratio ≤ MOST_AREA }
+    ensures { IfOk result (λ bits. AreBitsOf net.now layout.now bits.items) }
+{
+    let count = counted(net, layout.ratio);
+    let mut bits = vec![in alloc; false; count as usize]?;
+    mark_places(net, layout, &mut bits);
+    mark_borders(net, layout, &mut bits);
+    Ok(bits)
+}
+
+// Marks where each node stands, and that a node stands there.
+fn mark_places(net: &MappedNet, layout: &Layout, bits: &mut [bool])
+    requires frame { IsFrame net.now layout.now.ratio }
+    requires placed { IsPlaced net.now layout.now }
+    requires bits { AreBitsSoFar net.now layout.now 0 0 bits.old }
+    ensures { AreBitsSoFar net.now layout.now (length net.now.nodes) 0 bits.new }
+{
+    let places = layout.places.as_slice();
+    for v in 0..node_count(net, layout.ratio) {
+        mark_place(net, layout, v, places[v as usize], bits);
+    }
+}
+
+// Marks that this node stands on this tile.
+fn mark_place(net: &MappedNet, layout: &Layout, v: u32, t: u32, bits: &mut [bool])
+    requires frame { IsFrame net.now layout.now.ratio }
+    requires placed { IsPlaced net.now layout.now }
+    requires node { v < length net.now.nodes }
+    requires stands { Stands layout.now v t }
+    requires bits { AreBitsSoFar net.now layout.now v 0 bits.old }
+    ensures { AreBitsSoFar net.now layout.now (v + 1) 0 bits.new }
+{
+    mark(net, layout.ratio, Variable::NodeOn(v, t), bits);
+    mark(net, layout.ratio, Variable::Taken(t), bits);
+}
+
+// Marks which borders carry an edge, and which edge.
+fn mark_borders(net: &MappedNet, layout: &Layout, bits: &mut [bool])
+    requires frame { IsFrame net.now layout.now.ratio }
+    requires placed { IsPlaced net.now layout.now }
+    requires bits { AreBitsSoFar net.now layout.now (length net.now.nodes) 0 bits.old }
+    ensures { AreBitsOf net.now layout.now bits.new }
+{
+    let borders = layout.borders.as_slice();
+    for b in 0..2 * tiles_of(net, layout.ratio) {
+        mark_border(net, layout, b, borders[b as usize], bits);
+    }
+}
+
+// Marks that this border carries this edge, if there is one.
+fn mark_border(net: &MappedNet, layout: &Layout, b: u32, edge: Option<u32>, bits: &mut [bool])
+    requires frame { IsFrame net.now layout.now.ratio }
+    requires placed { IsPlaced net.now layout.now }
+    requires border { b < border_count layout.now.ratio }
+    requires edge { edge ≡ edge_of layout.now b }
+    requires bits { AreBitsSoFar net.now layout.now (length net.now.nodes) b bits.old }
+    ensures { AreBitsSoFar net.now layout.now (length net.now.nodes) (b + 1) bits.new }
+{
+    if let Some(e) = edge {
+        mark_edge(net, layout, b, e, bits);
+    }
+}
+
+// Marks that this border carries this edge.
+fn mark_edge(net: &MappedNet, layout: &Layout, b: u32, e: u32, bits: &mut [bool])
+    requires frame { IsFrame net.now layout.now.ratio }
+    requires placed { IsPlaced net.now layout.now }
+    requires border { b < border_count layout.now.ratio }
+    requires edge { edge_of layout.now b ≡ Some e }
+    requires bits { AreBitsSoFar net.now layout.now (length net.now.nodes) b bits.old }
+    ensures { AreBitsSoFar net.now layout.now (length net.now.nodes) (b + 1) bits.new }
+{
+    mark(net, layout.ratio, Variable::Used(b), bits);
+    mark(net, layout.ratio, Variable::EdgeOn(e, b), bits);
+}
+
+// Sets the bit of a variable.
+fn mark(net: &MappedNet, ratio: Ratio, x: Variable, bits: &mut [bool])
+    requires frame { IsFrame net.now ratio }
+    requires variable { IsVariable net.now ratio x }
+    requires all { length bits.old ≡ variable_count net.now ratio }
+    ensures { bits.new ≡ slice_set bits.old (number_of net.now ratio x - 1) true }
+{
+    bits[number(net, ratio, x) as usize - 1] = true;
+}

@@ -1,6 +1,8 @@
-//! The layouts of a mapped network on a grid as a formula in conjunctive normal form: bits that make all
-//! its clauses true are a legal layout, and a legal layout's bits make all of them true. Here stands the
-//! way from the layout to the bits.
+//! The layouts of a mapped network on a grid as a formula in conjunctive normal form, in fourteen families
+//! of clauses: what may stand where, what borders carry, how edges go through tiles, and which forms are
+//! permitted. `encode` gives exactly these clauses, and `bits_of` exactly what each variable says of a legal
+//! layout. That a legal layout's bits make every clause true, and that bits which do are a legal layout, is
+//! for later.
 #![tactic(auto)]
 
 mod around;

@@ -9,3 +9,11 @@ pub mod Passing
 pub mod Barring
 pub mod Framing
 pub mod Marking
+pub mod Truths
+pub mod PlacesTrue
+pub mod WaysOn
+pub mod WaysTrue
+pub mod BarredForms
+pub mod BarredTrue
+pub mod Solving
+pub mod HavingBits

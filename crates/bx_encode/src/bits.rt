@@ -1,12 +1,14 @@
 //! The bits of a layout: for each variable whether what it says holds. They are set node by node and border
 //! by border.
 ghost use Rattle.std.specs.Prelude.{◌≡◌, ◌≤◌, ◌<◌, ◌-◌, ◌+◌, true, length, slice_set, Some, IfSome, IfOk};
+ghost use Rattle.bx_cnf.specs.Formulas.{AllTrue};
 ghost use Rattle.bx_grid.specs.Tiles.{tile_count, IsTile};
 ghost use Rattle.bx_layout.specs.Layouts.{Stands, edge_on as edge_of};
 ghost use Rattle.bx_layout.specs.Legal.{IsPlaced, IsLegal};
-ghost use Rattle.bx_layout.specs.Permits.{all_forms};
+ghost use Rattle.bx_layout.specs.Permits.{PermitTest, all_forms};
 ghost use Rattle.bx_encode.specs.Variables.{IsVariable, border_count, variable_count, number as number_of};
 ghost use Rattle.bx_encode.specs.Bits.{AreBitsOf, AreBitsSoFar};
+ghost use Rattle.bx_encode.specs.Formula.{formula};
 ghost use Rattle.bx_encode.specs.Sizes.{IsFrame};
 
 use crate::formula::counted;
@@ -18,18 +20,30 @@ use bx_logic::NoMemory;
 use bx_network::MappedNet;
 use std::alloc::Global;
 
-/// The bits of a layout, one for each variable of its ratio's formula: whether what it says holds.
+/// The bits of a layout, one for each variable of its ratio's formula: whether what it says holds. They make
+/// every clause of the formula true, under each permit under which the layout is legal.
 pub fn bits_of(alloc: Global, net: &MappedNet, layout: &Layout) -> Result<Vec<bool>, NoMemory>
     requires legal { IsLegal net.now all_forms layout.now }
     requires nodes { length net.now.nodes ≤ MOST_NODES }
     requires area { tile_count layout.now.ratio ≤ MOST_AREA }
-    ensures { IfOk result (λ bits. AreBitsOf net.now layout.now bits.items) }
+    ensures bits { IfOk result (λ bits. AreBitsOf net.now layout.now bits.items) }
+    ensures solve { IfOk result (λ bits. (permit : PermitTest) → IsLegal net.now permit layout.now → AllTrue bits.items (formula net.now permit layout.now.ratio).clauses) }
 {
     let count = counted(net, layout.ratio);
-    let mut bits = vec![in alloc; false; count as usize]?;
+    let bits = vec![in alloc; false; count as usize]?;
+    Ok(marked(net, layout, bits))
+}
+
+// The bits, of which none is set yet, with those set whose variables hold.
+fn marked(net: &MappedNet, layout: &Layout, mut bits: Vec<bool>) -> Vec<bool>
+    requires frame { IsFrame net.now layout.now.ratio }
+    requires placed { IsPlaced net.now layout.now }
+    requires bits { AreBitsSoFar net.now layout.now 0 0 bits.items }
+    ensures { AreBitsOf net.now layout.now result.items }
+{
     mark_places(net, layout, &mut bits);
     mark_borders(net, layout, &mut bits);
-    Ok(bits)
+    bits
 }
 
 // Marks where each node stands, and that a node stands there.

@@ -118,7 +118,7 @@ pub fn literal(var: u32, positive: bool) -> Lit
     }
 }
 
-// The variable's number.
+/// The variable's number, as the formula has it.
 pub fn number(net: &MappedNet, ratio: Ratio, x: Variable) -> u32
     requires frame { IsFrame net.now ratio }
     requires variable { IsVariable net.now ratio x }

@@ -1,55 +1,18 @@
-//! The formulas of two small networks, and the bits of their layouts: what clauses are there by their numbers,
-//! how many there are, and that each bit counts. The values come from another encoder or were worked out by
-//! hand.
-ghost use Rattle.std.specs.Prelude.{◌≡◌, ◌≤◌, IsTrue, IfOk, length};
+//! The formulas of small networks, and the bits of their layouts: what clauses are there by their numbers, how
+//! many there are, and that each bit counts. The values come from another encoder or were worked out by hand.
+ghost use Rattle.std.specs.Prelude.{◌≤◌, IsTrue, length};
 ghost use Rattle.bx_grid.specs.Tiles.{tile_count, IsGrid};
-ghost use Rattle.bx_network.specs.Examples.{inversion};
-ghost use Rattle.bx_encode.specs.Examples.{passing};
 
+use crate::networks::{conjunction, half_adder, inversion, passing};
 use crate::{MOST_AREA, MOST_NODES, bits_of, encode};
 use bx_cnf::{Clauses, Lit, all_true};
-use bx_forms::{Form, FormSet, Kind};
+use bx_forms::{Form, FormSet};
 use bx_grid::Ratio;
 use bx_layout::{Borders, Layout, Permit, Places, is_legal};
-use bx_network::{Edge, MappedNet, Node};
+use bx_network::MappedNet;
 use std::alloc::Global;
 use std::process::Abort;
 use std::test::Fail;
-
-fn node(kind: Kind) -> Node
-    ensures { result ≡ record { kind = kind; port = 0 } }
-{
-    Node { kind, port: 0 }
-}
-
-fn edge(source: u32, target: u32) -> Edge
-    ensures { result ≡ record { source = source; slot = 0; target = target; operand = 0 } }
-{
-    Edge {
-        source,
-        slot: 0,
-        target,
-        operand: 0,
-    }
-}
-
-// An input that leads to an output.
-fn passing_net(alloc: Global) -> Result<MappedNet, Fail>
-    ensures { IfOk result (λ net. net ≡ passing) }
-{
-    let nodes = vec![in alloc; node(Kind::Input), node(Kind::Output)]?;
-    let edges = vec![in alloc; edge(0, 1)]?;
-    Ok(MappedNet::new(alloc, nodes, edges)?)
-}
-
-// An input whose inversion leads to an output.
-fn inversion_net(alloc: Global) -> Result<MappedNet, Fail>
-    ensures { IfOk result (λ net. net ≡ inversion) }
-{
-    let nodes = vec![in alloc; node(Kind::Input), node(Kind::Not), node(Kind::Output)]?;
-    let edges = vec![in alloc; edge(0, 1), edge(1, 2)]?;
-    Ok(MappedNet::new(alloc, nodes, edges)?)
-}
 
 // The permit of all forms but these.
 fn without(left_out: &[u8]) -> Permit {
@@ -116,7 +79,7 @@ fn clauses_stand_family_by_family(rt: HostRuntime) -> Result<(), Fail> {
     for family in FAMILIES {
         wanted.push_str(family)?;
     }
-    let net = passing_net(rt.alloc())?;
+    let net = passing(rt.alloc())?;
     let clauses = formula_of(rt.alloc(), &net, Ratio { w: 1, h: 2 }, &[2])?;
     let found = text_of(rt.alloc(), &clauses)?;
     assert_eq!(rt; found.as_str(), wanted.as_str());
@@ -162,10 +125,17 @@ const OF_INVERSION: [Count; 4] = [
     (3, 4, &[], 120, 729),
 ];
 
+const OF_CONJUNCTION: [Count; 1] = [(2, 3, &[], 78, 464)];
+
+// On three columns and four rows no half adder fits.
+const OF_HALF_ADDER: [Count; 2] = [(3, 4, &[], 324, 3272), (3, 5, &[], 405, 4286)];
+
 #[test]
 fn variables_and_clauses_are_counted(rt: HostRuntime) -> Result<(), Fail> {
-    are_counted(&rt, rt.alloc(), &passing_net(rt.alloc())?, &OF_PASSING)?;
-    are_counted(&rt, rt.alloc(), &inversion_net(rt.alloc())?, &OF_INVERSION)
+    are_counted(&rt, rt.alloc(), &passing(rt.alloc())?, &OF_PASSING)?;
+    are_counted(&rt, rt.alloc(), &inversion(rt.alloc())?, &OF_INVERSION)?;
+    are_counted(&rt, rt.alloc(), &conjunction(rt.alloc())?, &OF_CONJUNCTION)?;
+    are_counted(&rt, rt.alloc(), &half_adder(rt.alloc())?, &OF_HALF_ADDER)
 }
 
 fn are_counted(
@@ -184,12 +154,14 @@ fn are_counted(
 
 // ---- The bits of layouts
 
-// A layout, the variables that are true of it, and those whose bits say nothing: that an empty tile is taken.
+// A layout, of whose borders these carry these edges, the variables that are true of it, and those whose bits
+// say nothing: that an empty tile is taken.
 #[derive(Clone, Copy)]
 struct Sample {
     ratio: Ratio,
     places: &'static [u32],
-    borders: &'static [Option<u32>],
+    borders: usize,
+    carried: &'static [(usize, u32)],
     trues: &'static [usize],
     free: &'static [usize],
 }
@@ -197,7 +169,8 @@ struct Sample {
 const ON_TWO_TILES: Sample = Sample {
     ratio: Ratio { w: 1, h: 2 },
     places: &[0, 1],
-    borders: &[None, Some(0), None, None],
+    borders: 4,
+    carried: &[(1, 0)],
     trues: &[1, 4, 5, 6, 8, 12],
     free: &[],
 };
@@ -205,7 +178,8 @@ const ON_TWO_TILES: Sample = Sample {
 const ON_FOUR_TILES: Sample = Sample {
     ratio: Ratio { w: 2, h: 2 },
     places: &[0, 2],
-    borders: &[None, Some(0), None, None, None, None, None, None],
+    borders: 8,
+    carried: &[(1, 0)],
     trues: &[1, 7, 9, 11, 14, 22],
     free: &[10, 12],
 };
@@ -213,7 +187,8 @@ const ON_FOUR_TILES: Sample = Sample {
 const WITH_A_WIRE: Sample = Sample {
     ratio: Ratio { w: 1, h: 3 },
     places: &[0, 2],
-    borders: &[None, Some(0), Some(0), None, None, None],
+    borders: 6,
+    carried: &[(1, 0), (2, 0)],
     trues: &[1, 6, 7, 9, 11, 12, 17, 18],
     free: &[],
 };
@@ -221,14 +196,51 @@ const WITH_A_WIRE: Sample = Sample {
 const WITH_AN_INVERSION: Sample = Sample {
     ratio: Ratio { w: 1, h: 3 },
     places: &[0, 1, 2],
-    borders: &[None, Some(0), Some(1), None, None, None],
+    borders: 6,
+    carried: &[(1, 0), (2, 1)],
     trues: &[1, 5, 9, 10, 11, 12, 14, 15, 20, 27],
     free: &[],
 };
 
+const WITH_A_GATE: Sample = Sample {
+    ratio: Ratio { w: 2, h: 3 },
+    places: &[0, 1, 2, 4],
+    borders: 12,
+    carried: &[(1, 0), (2, 1), (4, 2)],
+    trues: &[1, 8, 15, 23, 25, 26, 27, 29, 32, 33, 35, 44, 57, 71],
+    free: &[28, 30],
+};
+
+// Each fan sends one edge straight down and one to the other gate: between two wires they cross.
+const WITH_A_CROSSING: Sample = Sample {
+    ratio: Ratio { w: 3, h: 5 },
+    places: &[0, 3, 1, 4, 9, 10, 12, 14],
+    borders: 30,
+    carried: &[
+        (1, 0),
+        (3, 3),
+        (6, 1),
+        (7, 2),
+        (8, 4),
+        (9, 5),
+        (13, 1),
+        (14, 4),
+        (15, 2),
+        (16, 5),
+        (18, 6),
+        (21, 7),
+    ],
+    trues: &[
+        1, 19, 32, 50, 70, 86, 103, 120, 121, 122, 124, 125, 130, 131, 133, 135, 137, 139, 142,
+        143, 144, 145, 149, 150, 151, 152, 154, 157, 167, 202, 209, 233, 241, 259, 294, 300, 325,
+        332, 364, 397,
+    ],
+    free: &[123, 126, 132, 134],
+};
+
 #[test]
 fn an_edge_passes_from_tile_to_tile(rt: HostRuntime) -> Result<(), Fail> {
-    let net = passing_net(rt.alloc())?;
+    let net = passing(rt.alloc())?;
     each_bit_counts(&rt, rt.alloc(), &net, &ON_TWO_TILES)?;
     each_bit_counts(&rt, rt.alloc(), &net, &ON_FOUR_TILES)?;
     each_bit_counts(&rt, rt.alloc(), &net, &WITH_A_WIRE)
@@ -236,13 +248,25 @@ fn an_edge_passes_from_tile_to_tile(rt: HostRuntime) -> Result<(), Fail> {
 
 #[test]
 fn an_inversion_stands_between(rt: HostRuntime) -> Result<(), Fail> {
-    let net = inversion_net(rt.alloc())?;
+    let net = inversion(rt.alloc())?;
     each_bit_counts(&rt, rt.alloc(), &net, &WITH_AN_INVERSION)
 }
 
 #[test]
+fn two_edges_meet_at_a_gate(rt: HostRuntime) -> Result<(), Fail> {
+    let net = conjunction(rt.alloc())?;
+    each_bit_counts(&rt, rt.alloc(), &net, &WITH_A_GATE)
+}
+
+#[test]
+fn two_edges_cross_beside_the_gates(rt: HostRuntime) -> Result<(), Fail> {
+    let net = half_adder(rt.alloc())?;
+    each_bit_counts(&rt, rt.alloc(), &net, &WITH_A_CROSSING)
+}
+
+#[test]
 fn an_output_reads_from_the_left(rt: HostRuntime) -> Result<(), Fail> {
-    let net = passing_net(rt.alloc())?;
+    let net = passing(rt.alloc())?;
     let bits = bits_of_sample(rt.alloc(), &net, &ON_TWO_TILES)?;
     for (left_out, wanted) in [(2u8, false), (3, true)] {
         let clauses = formula_of(rt.alloc(), &net, ON_TWO_TILES.ratio, &[left_out])?;
@@ -278,9 +302,19 @@ fn bits_of_sample(alloc: Global, net: &MappedNet, sample: &Sample) -> Result<Vec
     let layout = Layout {
         ratio: sample.ratio,
         places: Places::new(Vec::from_slice(alloc, sample.places)?),
-        borders: Borders::new(Vec::from_slice(alloc, sample.borders)?),
+        borders: borders_of(alloc, sample)?,
     };
     bits_of_legal(alloc, net, &layout)
+}
+
+fn borders_of(alloc: Global, sample: &Sample) -> Result<Borders, Fail> {
+    let mut borders = vec![in alloc; None; sample.borders]?;
+    for (b, e) in sample.carried {
+        if let Some(border) = borders.get_mut(*b) {
+            *border = Some(*e);
+        }
+    }
+    Ok(Borders::new(borders))
 }
 
 fn bits_of_legal(alloc: Global, net: &MappedNet, layout: &Layout) -> Result<Vec<bool>, Fail> {

@@ -1,0 +1,11 @@
+pub mod Clauses
+pub mod Families
+pub mod Rules
+pub mod Sides
+pub mod Placing
+pub mod Balancing
+pub mod Table
+pub mod Permitting
+pub mod Legal
+pub mod Reading
+pub mod Once

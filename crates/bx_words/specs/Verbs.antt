@@ -1,0 +1,41 @@
+-- The commands: the word of each, the names of its files, and its options.
+use Rattle.std.specs.Prelude.{ℕ, List, [], ◌∷◌, map, find, codes, Option, None, String, string_bytes}
+use Rattle.std.specs.Str.{bytes_eq}
+use Rattle.bx_words.specs.declared.opts.Opt.{Opt}
+use Rattle.bx_words.specs.declared.opts.Opt.TheVariants.{Area, Width, Height, Budget}
+use Rattle.bx_words.specs.declared.verbs.File.{File}
+use Rattle.bx_words.specs.declared.verbs.File.TheVariants.{Net, Cert}
+use Rattle.bx_words.specs.declared.verbs.Verb.{Verb}
+use Rattle.bx_words.specs.declared.verbs.Verb.TheVariants.{Design}
+
+abbrev pub Text : Type 0
+Text = List ℕ
+
+-- words as texts
+abbrev pub texts : {A : Type 0} → List (String A) → List Text
+texts words = map string_bytes words
+
+abbrev pub file_name : File → Text
+file_name Net = codes "NET"
+file_name Cert = codes "CERT"
+
+-- a command's word, its files in their order, and its options in the order in which faults are told of
+pub record Line : Type 0 where
+  pub name : Text
+  pub files : List File
+  pub options : List Opt
+
+abbrev pub line_of : Verb → Line
+line_of Design = record {
+  name = codes "design";
+  files = Net ∷ Cert ∷ [];
+  options = Area ∷ Width ∷ Height ∷ Budget ∷ [];
+}
+
+abbrev pub verbs : List Verb
+verbs = Design ∷ []
+
+-- the command that the first word names
+abbrev pub verb_of : List Text → Option Verb
+verb_of [] = None
+verb_of (word ∷ rest) = find (λ verb. bytes_eq (line_of verb).name word) verbs

@@ -1,0 +1,30 @@
+//! The commands with what the words say of them.
+ghost use Rattle.std.specs.Prelude.{◌≤◌, ◌≢◌, ◌*◌, length};
+ghost use Rattle.bx_grid.specs.Orders.{AreLimits, order};
+ghost use Rattle.bx_words.specs.Options.{most_work};
+
+use bx_grid::Limits;
+
+/// A command, as the words give it.
+#[derive(Clone, Copy, Debug)]
+pub enum Command<'w> {
+    /// Lays out a module.
+    Design(DesignCommand<'w>),
+}
+
+/// The words `design NET CERT`, with the options as they are given or by default. The two names are apart, and
+/// the work is small enough for a search.
+#[derive(Clone, Copy, Debug)]
+pub struct DesignCommand<'w> {
+    /// The file of the module.
+    pub net: &'w str,
+    /// The file that the certificate is written to.
+    pub cert: &'w str,
+    /// The largest ratios that are tried.
+    pub limits: Limits,
+    /// How much work may be done for one ratio.
+    pub budget: u64,
+    pub ghost limits_are: { AreLimits limits },
+    pub ghost apart: { net.now ≢ cert.now },
+    pub ghost work: { budget * length (order limits) ≤ most_work },
+}

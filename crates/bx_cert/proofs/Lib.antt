@@ -1,0 +1,11 @@
+pub mod Words
+pub mod Lines
+pub mod OneLine
+pub mod CertGrammar
+pub mod Leading
+pub mod Written
+pub mod Stuck
+pub mod Stopping
+pub mod Runs
+pub mod Cuts
+pub mod Readers

@@ -1,0 +1,13 @@
+use Rattle.std.proofs.Common.{[], ◌∷◌}
+use Rattle.std.specs.Prelude.{decimal}
+use Rattle.bx_desk.proofs.Saying.{says_then, says_failed}
+use Rattle.bx_proof.proofs.Putting.{put_out}
+use Rattle.bx_cert.proofs.write.put_spaced.Goals as goal
+
+pub returns-in_err-put_word : goal.returns-in_err-put_word
+returns-in_err-put_word g c = says_failed _ _ _ _ _ _ _ (32 ∷ []) (decimal c.args.number) c.in_err-put_word.was c.from_residual.ensures.0 c.put_word.ensures
+
+pub returns : goal.returns
+returns g c =
+    says_then _ _ _ _ _ _ _ _ _ (32 ∷ []) (decimal c.args.number) c.in_ok-put_word.was c.put_word.ensures
+    (put_out _ _ _ c.put_word.new.piece c.put_number.new.self (decimal c.args.number) c.put_number.ensures.hands_on c.put_number.ensures.target_stays c.put_number.ensures.can)

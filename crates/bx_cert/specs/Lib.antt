@@ -1,0 +1,4 @@
+pub mod Certs
+pub mod Texts
+pub mod Grammar
+pub mod Readings

@@ -1,0 +1,10 @@
+pub mod DotOrder
+pub mod DotSets
+pub mod Listing
+pub mod Keys
+pub mod Stages
+pub mod Checks
+pub mod Pairs
+pub mod Drawing
+pub mod One
+pub mod Reading

@@ -1,0 +1,9 @@
+pub mod Dots
+pub mod Groups
+pub mod Values
+pub mod Tiles
+pub mod Faults
+pub mod Readings
+pub mod Triples
+pub mod Drawn
+pub mod Alike

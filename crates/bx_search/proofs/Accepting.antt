@@ -21,11 +21,11 @@ use Rattle.bx_search.proofs.Leading.{in-clause, kept-within}
 use Rattle.bx_search.proofs.Following.{from-reversed, get-front, get-last, each-of_log}
 
 -- all that a state speaks of is of the formula's variables, and no step is empty
-record IsWithin (vars : ℕ) (s : State) : Type 0 where
-  trail : (a : Assigned) → Member a s.trail → a.literal.var ≤ vars
-  queue : (v : ℕ) → Member v s.queue → v ≤ vars
-  steps : (step : Step) → Member step s.steps → (l : Literal) → Member l step.literals → l.var ≤ vars
-  some : (step : Step) → Member step s.steps → step.literals ≢ []
+pub record IsWithin (vars : ℕ) (s : State) : Type 0 where
+  pub trail : (a : Assigned) → Member a s.trail → a.literal.var ≤ vars
+  pub queue : (v : ℕ) → Member v s.queue → v ≤ vars
+  pub steps : (step : Step) → Member step s.steps → (l : Literal) → Member l step.literals → l.var ≤ vars
+  pub some : (step : Step) → Member step s.steps → step.literals ≢ []
 
 start-within : (vars : ℕ) → IsWithin vars (start vars)
 start-within vars = record {
@@ -36,7 +36,7 @@ start-within vars = record {
 }
 
 -- a literal of a clause
-clause-within : (formula : Formula) (s : State) (id : ℕ) (clause : List Literal) (l : Literal) → IsFormula formula → IsWithin formula.vars s
+pub clause-within : (formula : Formula) (s : State) (id : ℕ) (clause : List Literal) (l : Literal) → IsFormula formula → IsWithin formula.vars s
     → slice_get (clauses_of formula s) (id - 1) ≡ Some clause → Member l clause → l.var ≤ formula.vars
 clause-within formula s id clause l formed within stands h = elim (Member-append_cases clause formula.clauses (map (λ (x : Step). x.literals) s.steps) among) [
   | inl own ↦ All-contains (λ (m : Literal). m.var ≤ formula.vars) clause l
@@ -49,7 +49,7 @@ clause-within formula s id clause l formed within stands h = elim (Member-append
       (Member-get_or (clauses_of formula s) (id - 1) clause (slice_get_within (clauses_of formula s) (id - 1) clause stands))
 
 -- the literals of a learned clause
-learned-within : (clauses : List (List Literal)) (vars : ℕ) (trail : List Assigned) (id : ℕ) (step : Step) → IsLearned clauses trail id step
+pub learned-within : (clauses : List (List Literal)) (vars : ℕ) (trail : List Assigned) (id : ℕ) (step : Step) → IsLearned clauses trail id step
     → ((a : Assigned) → Member a trail → a.literal.var ≤ vars) → (l : Literal) → Member l step.literals → l.var ≤ vars
 learned-within clauses vars trail id step learns within l h =
     let (a, keeps, is) = Member-map_cases (λ (z : Assigned). negated z.literal) l (treated_from clauses trail id).kept (Member-from_contains l _ ((learns.kept l).0 (Contains-from_member l step.literals h))) in
@@ -111,7 +111,7 @@ within-goes formula budget s t formed (Learns id step conflict fits some next) w
   low : (l : Literal) → Member l step.literals → l.var ≤ formula.vars
   low = learned-within (clauses_of formula s) formula.vars s.trail id step conflict.learned within.trail
 
-within-after : (formula : Formula) (budget events : ℕ) (s : State) → IsFormula formula → After formula budget events s → IsWithin formula.vars s
+pub within-after : (formula : Formula) (budget events : ℕ) (s : State) → IsFormula formula → After formula budget events s → IsWithin formula.vars s
 within-after formula budget zero s formed is = subst (IsWithin formula.vars) (sym is) (start-within formula.vars)
 within-after formula budget (suc events) s formed (before, after, goes) =
     within-goes formula budget before s formed goes (within-after formula budget events before formed after)

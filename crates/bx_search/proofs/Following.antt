@@ -20,7 +20,7 @@ use Rattle.bx_search.specs.Searching.Goes.{Propagates, Decides, Learns}
 use Rattle.bx_search.specs.declared.outcome.Outcome.TheVariants.{Unsat}
 use Rattle.bx_search.proofs.Kept.{Falls, or-false}
 use Rattle.bx_search.proofs.Rising.{Rises, rises-after, falls-reversed}
-use Rattle.bx_search.proofs.Backed.{IsReason, IsBacked, IsNew, AreBacked, backed-more, backed-up_to}
+use Rattle.bx_search.proofs.Backed.{IsReason, IsBacked, IsNew, AreBacked, IsConsistent, consistent, backed-more, backed-up_to}
 use Rattle.bx_search.proofs.Leading.{onto-left, on-reversed, learned-follows}
 
 pub from-reversed : (trail : List Assigned) (b : Assigned) → Member b (reverse trail) → Member b trail
@@ -51,14 +51,14 @@ falls-all top [] b f h = absurd h
 falls-all top (a ∷ before) b f (inl e) = subst (λ (z : Assigned). z.level ≤ top) e f.0
 falls-all top (a ∷ before) b f (inr h) = let low = falls-all a.level before b f.1 h in omega (arith, low, f.0)
 
-unassigned : (trail : List Assigned) (var : ℕ) (b : Assigned) → is_assigned trail var ≡ false → Member b trail → b.literal.var ≢ var
+pub unassigned : (trail : List Assigned) (var : ℕ) (b : Assigned) → is_assigned trail var ≡ false → Member b trail → b.literal.var ≢ var
 unassigned [] var b none h e = absurd h
 unassigned (a ∷ trail) var b none (inl x) e = no (sym (eq-eqb a.literal.var var (ap (λ (z : Assigned). z.literal.var) x ∙ e)) ∙ (or-false (a.literal.var == var) (is_assigned trail var) none).0) where
   no : true ≡ false → ⊥
   no h = cc
 unassigned (a ∷ trail) var b none (inr h) e = unassigned trail var b (or-false (a.literal.var == var) (is_assigned trail var) none).1 h e
 
-free-first : (s : State) (var : ℕ) → first_free s ≡ Some var → is_assigned s.trail var ≡ false
+pub free-first : (s : State) (var : ℕ) → first_free s ≡ Some var → is_assigned s.trail var ≡ false
 free-first s var first =
     let found : IfSome (Some var) (λ v. Contains s.queue v × (not (is_assigned s.trail v) ≡ true)) =
     subst (λ (o : Option ℕ). IfSome o (λ v. Contains s.queue v × (not (is_assigned s.trail v) ≡ true))) first (find-some (λ v. not (is_assigned s.trail v)) s.queue) in
@@ -71,7 +71,7 @@ new-decision s l first = AllByRecursion-from_member (λ (b : Assigned). b.litera
 with-step : (clauses : List (List Literal)) (steps : List Step) (step : Step) → with_steps clauses steps ++ step.literals ∷ [] ≡ with_steps clauses (steps ++ step ∷ [])
 with-step clauses steps step = append_assoc clauses (map (λ (x : Step). x.literals) steps) (step.literals ∷ []) ∙ ap (λ ls. clauses ++ ls) (sym (map-append (λ (x : Step). x.literals) steps (step ∷ [])))
 
-abbrev IsBackedState : Formula → State → Type 0
+abbrev pub IsBackedState : Formula → State → Type 0
 IsBackedState formula s = AreBacked (clauses_of formula s) (reverse s.trail)
 
 backed-goes : (formula : Formula) (budget : ℕ) (s t : State) → Goes formula budget s t → Rises 0 s.trail → IsBackedState formula s → IsBackedState formula t
@@ -92,10 +92,15 @@ backed-goes formula budget s t (Learns id step conflict within some next) rises 
     (backed-more (clauses_of formula s) (step.literals ∷ []) (reverse (learned formula s id step).trail)
     (backed-up_to (clauses_of formula s) (backjump_level (length s.steps + 1) (treated_from (clauses_of formula s) s.trail id).kept) (current_level s.trail) s.trail (falls-reversed s.trail rises) backed)))
 
-backed-after : (formula : Formula) (budget events : ℕ) (s : State) → After formula budget events s → IsBackedState formula s
+pub backed-after : (formula : Formula) (budget events : ℕ) (s : State) → After formula budget events s → IsBackedState formula s
 backed-after formula budget zero s is = subst (IsBackedState formula) (sym is) tt
 backed-after formula budget (suc events) s (before, after, goes) =
     backed-goes formula budget before s goes (rises-after formula budget events before after) (backed-after formula budget events before after)
+
+-- no literal of the trail and its negation both stand on it
+pub consistent-after : (formula : Formula) (budget events : ℕ) (s : State) → After formula budget events s → IsConsistent s.trail
+consistent-after formula budget events s after l h k =
+    consistent (clauses_of formula s) (reverse s.trail) (backed-after formula budget events s after) l (on-reversed s.trail l h) (on-reversed s.trail (negated l) k)
 
 conflict-follows : (formula : Formula) (budget events : ℕ) (s : State) (id : ℕ) (step : Step) → After formula budget events s → IsConflict formula s id step → Follows (clauses_of formula s) step
 conflict-follows formula budget events s id step after conflict =

@@ -17,7 +17,7 @@ use Rattle.bx_search.specs.Searching.{Goes, Ends, After, IsSearch, IsConflict, I
 use Rattle.bx_search.specs.Searching.Goes.{Propagates, Decides, Learns}
 
 -- literals that ascend are above where they begin
-above : (low : ℕ) (ls : List Literal) (l : Literal) → AscendAbove low ls → Member l ls → low < l.var
+pub above : (low : ℕ) (ls : List Literal) (l : Literal) → AscendAbove low ls → Member l ls → low < l.var
 above low [] l a h = absurd h
 above low (m ∷ ls) l a (inl e) = subst (λ (x : Literal). low < x.var) e a.0
 above low (m ∷ ls) l a (inr h) = let rest = above m.var ls l a.1 h in omega (arith, a.0, rest)
@@ -155,7 +155,7 @@ on-the-way formula budget early (suc late) s t a (q, b, went) l = elim (cases_or
   | inr (inr behind) ↦ absurd (omega (arith, l, behind))
 ]
 
-no-later : (formula : Formula) (budget early late : ℕ) (s t : State) (end : Outcome) → After formula budget early s → Ends formula budget s end → After formula budget late t → early < late → ⊥
+pub no-later : (formula : Formula) (budget early late : ℕ) (s t : State) (end : Outcome) → After formula budget early s → Ends formula budget s end → After formula budget late t → early < late → ⊥
 no-later formula budget early late s t end a ends b l = let (u, goes) = on-the-way formula budget early late s t a b l in no-event formula budget s u end ends goes
 
 one-last : (formula : Formula) (budget m n : ℕ) (end other : Outcome) (one : IsSearch formula budget end m) (two : IsSearch formula budget other n) → one.last ≡ two.last

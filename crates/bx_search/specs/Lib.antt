@@ -1,3 +1,7 @@
 pub mod States
 pub mod Learning
 pub mod Searching
+pub mod Trails
+pub mod Solving
+pub mod Marks
+pub mod Beats

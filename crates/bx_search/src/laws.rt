@@ -1,15 +1,15 @@
 //! Laws about the definitions alone, each the clause of a function with an empty body. Nothing here
 //! runs.
-ghost use Rattle.std.specs.Prelude.{◌≡◌, ℕ, ◌<◌, ◌≤◌, List, length, All};
+ghost use Rattle.std.specs.Prelude.{◌≡◌, ℕ, ◌<◌, ◌≤◌, Bool, List, length, All};
 ghost use Rattle.bx_cnf.specs.Literals.{Literal};
-ghost use Rattle.bx_cnf.specs.Formulas.{Formula, IsFormula};
+ghost use Rattle.bx_cnf.specs.Formulas.{Formula, IsFormula, AllTrue};
 ghost use Rattle.bx_proof.specs.Steps.{StepList};
 ghost use Rattle.bx_proof.specs.Accepted.{EachFollows, IsAccepted};
 ghost use Rattle.bx_search.specs.States.{Assigned, State, clauses_of, current_level};
 ghost use Rattle.bx_search.specs.Learning.{treated_from, of_level};
 ghost use Rattle.bx_search.specs.Searching.{After, IsSearch};
 ghost use Rattle.bx_search.specs.declared.outcome.Outcome.{Outcome};
-ghost use Rattle.bx_search.specs.declared.outcome.Outcome.TheVariants.{Unsat};
+ghost use Rattle.bx_search.specs.declared.outcome.Outcome.TheVariants.{Sat, Unsat};
 
 /// No literal of level 0 is kept in a learned clause.
 pub fn nothing_of_level_0_is_kept()
@@ -37,4 +37,21 @@ pub fn each_learned_clause_follows()
 /// The log of a search that ends with the empty clause is accepted, so nothing solves its formula.
 pub fn a_log_is_accepted()
     ensures { (formula : Formula) (budget count : ℕ) (log : StepList) → IsFormula formula → IsSearch formula budget (Unsat log) count → IsAccepted formula log }
+{}
+
+/// The bits with which a search ends, one for each variable, make all clauses of its formula true.
+pub fn the_bits_of_a_search_solve()
+    ensures each_has { (formula : Formula) (budget count : ℕ) (bits : List Bool) → IsFormula formula → IsSearch formula budget (Sat bits) count → length bits ≡ formula.vars }
+    ensures all_true { (formula : Formula) (budget count : ℕ) (bits : List Bool) → IsFormula formula → IsSearch formula budget (Sat bits) count → AllTrue bits formula.clauses }
+{}
+
+/// The search of each formula within each budget ends: events that learn nothing make the trail longer,
+/// which has one literal of each variable at most, and the others leave less of the budget.
+pub fn a_search_ends()
+    ensures { (formula : Formula) (budget : ℕ) → IsFormula formula → (end : Outcome) × (count : ℕ) × IsSearch formula budget end count }
+{}
+
+/// A search learns no more clauses that aren't empty than its budget is.
+pub fn a_search_learns_within_its_budget()
+    ensures { (formula : Formula) (budget count : ℕ) (end : Outcome) → IsSearch formula budget end count → count ≤ budget }
 {}

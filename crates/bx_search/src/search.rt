@@ -1,0 +1,98 @@
+//! The search: from one conflict to the next, until all variables have values, the empty clause is
+//! learned, a step would pass the budget, or the pulse doesn't want it any more.
+ghost use Rattle.std.specs.Prelude.{◌≡◌, ◌≢◌, ℕ, ◌+◌, ◌≤◌, List, Bool, length, IfOk, OnErr};
+ghost use Rattle.bx_cnf.specs.Formulas.{AllTrue};
+ghost use Rattle.bx_proof.specs.Steps.{StepList};
+ghost use Rattle.bx_proof.specs.Accepted.{IsAccepted};
+ghost use Rattle.bx_search.specs.Searching.{IsSearch};
+ghost use Rattle.bx_search.specs.Solving.{IsReached, IsSolver, state_of, TurnsTo};
+ghost use Rattle.bx_search.specs.declared.outcome.Outcome.{Outcome as End};
+
+use crate::learn::Learned;
+use crate::outcome::Outcome;
+use crate::pulse::Pulse;
+use crate::solver::Solver;
+use bx_cnf::{Bits, Clauses};
+use bx_logic::NoMemory;
+use std::alloc::Global;
+
+/// Searches for bits that make all clauses true, within a budget of literals and hints of learned steps.
+/// It asks the pulse once after each learned step that isn't empty, and stops where the answer is no.
+///
+/// # Errors
+///
+/// `NoMemory`. The pulse may have been asked, and never answered no.
+pub fn solve<P: Pulse>(
+    alloc: Global,
+    clauses: &Clauses,
+    budget: u64,
+    pulse: &mut P,
+) -> Result<Outcome, NoMemory>
+    requires ready { P.ready pulse.old }
+    requires room { length clauses.now.clauses + budget ≤ 4294967295 }
+
+    // Unless it was stopped it is the search's end, and the pulse was asked once for each step.
+    ensures ended { IfOk result (λ end. end ≢ Outcome.Stopped
+        → (n : ℕ) × IsSearch clauses.now budget end n × (P.asked pulse.new ≡ P.asked pulse.old + n)) }
+    ensures not_stopped { IfOk result (λ end. end ≢ Outcome.Stopped → P.stops pulse.new ≡ P.stops pulse.old) }
+
+    // It is stopped only where the pulse said so, at last.
+    ensures stopped { IfOk result (λ end. end ≡ Outcome.Stopped → P.stops pulse.new ≡ P.stops pulse.old + 1) }
+    ensures asked { IfOk result (λ end. end ≡ Outcome.Stopped → P.asked pulse.old + 1 ≤ P.asked pulse.new) }
+
+    // It never asks more often than the search learns.
+    ensures at_most { (end : End) (n : ℕ) → IsSearch clauses.now budget end n → P.asked pulse.new ≤ P.asked pulse.old + n }
+    ensures no_memory { OnErr result (P.stops pulse.new ≡ P.stops pulse.old) }
+    ensures leads { P.leads pulse.old pulse.new }
+
+    // Bits that it gives are one for each variable, and make all clauses true.
+    ensures solved { IfOk result (λ end. (bits : List Bool) → end ≡ Outcome.Sat bits
+        → (length bits ≡ clauses.now.vars) × AllTrue bits clauses.now.clauses) }
+
+    // A log that it gives is accepted.
+    ensures accepted { IfOk result (λ end. (log : StepList) → end ≡ Outcome.Unsat log → IsAccepted clauses.now log) }
+{
+    let mut solver = Solver::new(alloc, clauses)?;
+    loop {
+        match solver.turn(budget)? {
+            Turn::Learned => {}
+            Turn::Complete => return Ok(Outcome::Sat(Bits::new(solver.trail.values(alloc)?))),
+            Turn::Beyond => return Ok(Outcome::Undecided(solver.spent)),
+            Turn::Empty => return Ok(Outcome::Unsat(solver.steps)),
+        }
+        if !pulse.wanted() {
+            return Ok(Outcome::Stopped);
+        }
+    }
+}
+
+/// How far the search came with one conflict more.
+pub(crate) enum Turn {
+    /// It learned a clause, and goes on.
+    Learned,
+    /// All variables have values.
+    Complete,
+    /// The next step would pass the budget.
+    Beyond,
+    /// It learned the empty clause.
+    Empty,
+}
+
+impl Solver<'_> {
+    // Goes on to the next conflict and learns from it, or to the end.
+    fn turn(&mut self, budget: u64) -> Result<Turn, NoMemory>
+        requires agrees { IsSolver self.old }
+        requires reached { IsReached self.old.clauses.now budget (state_of self.old) }
+        requires room { length self.old.clauses.now.clauses + budget ≤ 4294967295 }
+        ensures { IfOk result (TurnsTo budget self.old self.new) }
+    {
+        let Some(id) = self.settle()? else {
+            return Ok(Turn::Complete);
+        };
+        Ok(match self.learn(id, budget)? {
+            Learned::Clause => Turn::Learned,
+            Learned::Beyond => Turn::Beyond,
+            Learned::Empty => Turn::Empty,
+        })
+    }
+}

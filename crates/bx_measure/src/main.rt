@@ -3,9 +3,13 @@
 //! the crate of the stage doesn't.
 #![tactic(auto)]
 
+mod dimacs;
+
 ghost use Rattle.bx_lex.specs.Tokens.{HasTokens};
 
+use crate::dimacs::say_dimacs;
 use bx_forms::Kind;
+use bx_grid::Ratio;
 use bx_lex::{Tokens, read_tokens};
 use bx_logic::{Name, Net};
 use bx_map::{MappedNet, Node, map_net};
@@ -31,9 +35,12 @@ enum Stage {
     Net,
     /// The mapped network of its module.
     Map,
+    /// The formula of its network on a grid.
+    Dimacs(Ratio),
 }
 
 impl Stage {
+    // The stage that runs on a file alone.
     fn named(word: &str) -> Option<Stage> {
         match word {
             "tokens" => Some(Stage::Tokens),
@@ -104,19 +111,22 @@ fn say_net(rt: &HostRuntime, net: &Net) -> io::Result<bool> {
     Ok(true)
 }
 
-// Says the mapped network of a net, or why there is none.
-fn say_map(rt: &HostRuntime, net: &Net) -> io::Result<bool> {
+// The mapped network of a net. Where there is none, that is said.
+fn network_of(rt: &HostRuntime, net: &Net) -> io::Result<Option<MappedNet>> {
     match map_net(rt.alloc(), net, MOST_NODES) {
-        Ok(network) => {
-            say_nodes(rt, net, &network)?;
-            say_edges(rt, &network)?;
-            Ok(true)
-        }
+        Ok(network) => Ok(Some(network)),
         Err(fault) => {
             println!(rt; "{fault:?}")?;
-            Ok(false)
+            Ok(None)
         }
     }
+}
+
+// Says the mapped network of a net.
+fn say_map(rt: &HostRuntime, net: &Net, network: &MappedNet) -> io::Result<bool> {
+    say_nodes(rt, net, network)?;
+    say_edges(rt, network)?;
+    Ok(true)
 }
 
 // Says each node in a line: its number, its kind, its longest paths, and its name where it is a port.
@@ -177,23 +187,44 @@ fn run(rt: &HostRuntime, stage: Stage, text: &[u8]) -> io::Result<bool> {
     let Some(net) = net_of(rt, &module)? else {
         return Ok(false);
     };
+    if let Stage::Net = stage {
+        return say_net(rt, &net);
+    }
+    let Some(network) = network_of(rt, &net)? else {
+        return Ok(false);
+    };
     match stage {
-        Stage::Map => say_map(rt, &net),
-        _ => say_net(rt, &net),
+        Stage::Dimacs(ratio) => say_dimacs(rt, &network, ratio),
+        _ => say_map(rt, &net, &network),
     }
 }
 
+// What the words say is to be run, and on which file.
+fn task_of(words: &[String]) -> Option<(Stage, &str)> {
+    match words {
+        [stage, path] => Some((Stage::named(stage.as_str())?, path.as_str())),
+        [stage, path, w, h] if stage.as_str() == "dimacs" => {
+            let ratio = ratio_of(w.as_str(), h.as_str())?;
+            Some((Stage::Dimacs(ratio), path.as_str()))
+        }
+        _ => None,
+    }
+}
+
+// So many columns and rows.
+fn ratio_of(w: &str, h: &str) -> Option<Ratio> {
+    let w = w.parse::<u32>().ok()?;
+    let h = h.parse::<u32>().ok()?;
+    Some(Ratio { w, h })
+}
+
 fn main(rt: HostRuntime) -> io::Result<ExitCode> {
-    let mut words = env::args(&rt)?.skip(1);
-    let (Some(stage), Some(path), None) = (words.next(), words.next(), words.next()) else {
-        println!(rt; "the words are STAGE FILE")?;
+    let words: Vec<String> = env::args(&rt)?.skip(1).collect(rt.alloc())?;
+    let Some((stage, path)) = task_of(&words) else {
+        println!(rt; "the words are STAGE FILE or dimacs FILE COLUMNS ROWS")?;
         return Ok(ExitCode::FAILURE);
     };
-    let Some(stage) = Stage::named(stage.as_str()) else {
-        println!(rt; "no such stage")?;
-        return Ok(ExitCode::FAILURE);
-    };
-    let text = fs::read(&rt, path.as_str())?;
+    let text = fs::read(&rt, path)?;
     if run(&rt, stage, &text)? {
         Ok(ExitCode::SUCCESS)
     } else {

@@ -1,0 +1,4 @@
+pub mod Counting
+pub mod Meaning
+pub mod OneVerdict
+pub mod InOrder

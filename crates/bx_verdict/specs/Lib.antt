@@ -1,0 +1,4 @@
+pub mod Refutations
+pub mod Verdicts
+pub mod Settling
+pub mod Sizes

@@ -1,0 +1,17 @@
+//! What is known of the ratios of a network, in their order, and of each by itself. The verdict of a ratio is the
+//! first count that refutes it, or else how the search of its formula ends: with bits that mean a layout, with
+//! steps that show that there is none, or undecided within the budget. Here stand these definitions and their
+//! laws; who finds the verdicts is still to come.
+//!
+//! A refuted ratio has no legal layout under the permit, whatever refutes it, and found bits are such as
+//! `bx_decode` makes a legal layout of. Which counts refute, what clauses say, how a search goes and what bits mean
+//! is for the crates below to say; where a verdict is written and read, and who tries ratios at one time, for those
+//! above.
+#![tactic(auto)]
+
+pub mod laws;
+mod settled;
+mod verdict;
+
+pub use settled::{Last, Settled};
+pub use verdict::Verdict;

@@ -4,7 +4,6 @@ pub mod OneLine
 pub mod CertGrammar
 pub mod Leading
 pub mod Written
-pub mod Stuck
 pub mod Stopping
 pub mod Runs
 pub mod Cuts

@@ -23,7 +23,7 @@ use Rattle.bx_cert.specs.Readings.{HasIds, IsRunAt, StopsAt, FitsBehind, moved}
 use Rattle.bx_cert.proofs.CertGrammar.{steps_more}
 use Rattle.bx_cert.proofs.Leading.{first_steps_lead, same_lines}
 use Rattle.bx_cert.proofs.Stopping.{stop_here, stop_behind, lines_fit}
-use Rattle.bx_cert.proofs.Stuck.{no_bytes, front_split, are_lines, IsStuckBehind, stuck_behind}
+use Rattle.bx_lines.proofs.Stuck.{no_bytes, front_split, are_lines, IsStuckBehind, stuck_behind}
 
 -- the id that bytes begin with is that of their first step
 first_id : (bytes : List ℕ) (log : StepList) (more : List ℕ) (count : ℕ) → 0 < length log.steps → AreSteps log.first log.steps → bytes ≡ text_of (step_lines log.first log.steps) ++ more → HasIds bytes count → log.first + count ≤ 2 ^ 32

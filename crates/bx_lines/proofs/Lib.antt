@@ -1,3 +1,4 @@
 pub mod FirstLines
 pub mod BadLines
 pub mod Numbers
+pub mod Stuck

@@ -67,10 +67,3 @@ goes_on_at clauses trues now old hints k c l within above at one is_now whole re
 pub stops_at : (clauses : List (List Literal)) (trues old : List Literal) (hints : List ℕ) (k : ℕ) (c : List Literal) → k < length hints → slice_get clauses (get_or hints k 0 - 1) ≡ Some c → (IsClauseFalse trues c → ⊥) × ((l : Literal) → LeavesOne trues c l → ⊥) → (LeadsToFalse clauses old hints → LeadsToFalse clauses trues (drop k hints)) → LeadsToFalse clauses old hints → ⊥
 stops_at clauses trues old hints k c within at more rest leads =
     at_more clauses trues (get_or hints k 0) (drop (k + 1) hints) c at more.0 more.1 (subst (LeadsToFalse clauses trues) (hints_at hints k within) (rest leads))
-
--- the same clauses at the ids of the hints
-pub same_leads : (clauses others : List (List Literal)) (trues : List Literal) (hints : List ℕ) → AllByRecursion (λ h. slice_get clauses (h - 1) ≡ slice_get others (h - 1)) hints → LeadsToFalse clauses trues hints → LeadsToFalse others trues hints
-same_leads clauses others trues [] same leads = leads
-same_leads clauses others trues (h ∷ hs) same leads =
-    let (c, above, at, how) = leads in
-    (c, above, sym same.0 ∙ at, elim how [ inl end ↦ inl end | inr go ↦ inr (go.0, go.1, same_leads clauses others (trues ++ go.0 ∷ []) hs same.1 go.2) ])

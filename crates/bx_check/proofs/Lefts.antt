@@ -14,7 +14,7 @@ get_take [] (suc i) k lt = refl
 get_take (x ∷ xs) (suc i) zero lt = refl
 get_take (x ∷ xs) (suc i) (suc k) lt = get_take xs i k (omega arith)
 
-get_take_within : {X : Type 0} (xs : List X) (i k : ℕ) (x : X) → slice_get (take i xs) k ≡ Some x → k < i
+pub get_take_within : {X : Type 0} (xs : List X) (i k : ℕ) (x : X) → slice_get (take i xs) k ≡ Some x → k < i
 get_take_within xs zero k x is = let never : ⊥ = cc in absurd never
 get_take_within [] (suc i) k x is = let never : ⊥ = cc in absurd never
 get_take_within (y ∷ xs) (suc i) zero x is = omega arith

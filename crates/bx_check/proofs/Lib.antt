@@ -4,3 +4,4 @@ pub mod Lefts
 pub mod Leads
 pub mod Clauses
 pub mod Steps
+pub mod Passing

@@ -1,9 +1,10 @@
 //! The check of a log, step by step.
-ghost use Rattle.std.specs.Prelude.{◌≡◌, ◌+◌, ◌-◌, ◌++◌, ◌<◌, ◌≤◌, ◌↔◌, List, [], ◌∷◌, Bool, map, take, length, slice_get, Some, IfOk, OnOk, IsTrue, All};
+ghost use Rattle.std.specs.Prelude.{◌≡◌, ◌+◌, ◌-◌, ◌++◌, ◌<◌, ◌≤◌, ◌↔◌, ℕ, List, [], ◌∷◌, Bool, map, take, length, slice_get, Some, None, IfOk, OnOk, IsTrue, All};
 ghost use Rattle.bx_cnf.specs.Literals.{negated};
 ghost use Rattle.bx_cnf.specs.Formulas.{AscendAbove, AllTrue};
 ghost use Rattle.bx_proof.specs.Steps.{Step};
-ghost use Rattle.bx_proof.specs.Accepted.{LeadsToFalse, with_steps, EachFollows, AreShaped, Follows, IsAccepted};
+ghost use Rattle.bx_proof.specs.Accepted.{LeadsToFalse, with_steps, Follows, IsAccepted};
+ghost use Rattle.bx_check.specs.Passing.{AreWithin, IsEnded, Passes, AllPass, IsFirstFailure};
 
 use crate::assignment::Assignment;
 use crate::left::{Left, left_of};
@@ -24,58 +25,56 @@ pub fn check(alloc: Global, clauses: &Clauses, steps: &Steps) -> Result<bool, No
     is_accepted(alloc, clauses, steps)
 }
 
+/// The first step of a log that fails, counted from 0, or none where all pass. A step passes where its
+/// variables are the formula's and its hints lead from the negations of its literals to a false clause.
+///
+/// # Errors
+///
+/// `NoMemory`.
+pub fn first_failure(
+    alloc: Global,
+    clauses: &Clauses,
+    steps: &Steps,
+) -> Result<Option<u32>, NoMemory>
+    requires { steps.now.first ≡ length clauses.now.clauses + 1 }
+    ensures fails { IfOk result (λ found. (k : ℕ) → (found ≡ Some k) ↔ IsFirstFailure clauses.now steps.now.steps k) }
+    ensures pass { IfOk result (λ found. (found ≡ None) ↔ AllPass clauses.now steps.now.steps) }
+{
+    let mut assignment = Assignment::new(alloc, clauses.vars())?;
+    for k in 0..steps.len() {
+        if !passes(clauses, steps, k, &mut assignment)? {
+            return Ok(Some(k));
+        }
+    }
+    Ok(None)
+}
+
 // Whether a log is accepted for a formula.
 fn is_accepted(alloc: Global, clauses: &Clauses, steps: &Steps) -> Result<bool, NoMemory>
     ensures { IfOk result (λ yes. IsTrue yes ↔ IsAccepted clauses.now steps.now) }
 {
     let numbered = u64::from(steps.first()) == u64::from(clauses.len()) + 1;
-    if steps.is_empty() || !numbered || !are_shaped(clauses.vars(), steps) {
+    if steps.is_empty() || !numbered || !is_ended(steps) {
         return Ok(false);
     }
-    each_follows(alloc, clauses, steps)
+    let failure = first_failure(alloc, clauses, steps)?;
+    Ok(failure.is_none())
 }
 
-// Whether the steps are over variables 1 to `vars`, and the last, and no other, has no literals.
-fn are_shaped(vars: u32, steps: &Steps) -> bool
-    ensures { IsTrue result ↔ AreShaped vars steps.now.steps }
+// Whether the last step, and no other, has no literals.
+fn is_ended(steps: &Steps) -> bool
+    ensures { IsTrue result ↔ IsEnded steps.now.steps }
 {
     for k in 0..steps.len() {
-        if !is_shaped(steps.literals(k), k + 1 == steps.len(), vars) {
+        if steps.literals(k).is_empty() != (k + 1 == steps.len()) {
             return false;
         }
     }
     true
 }
 
-// Whether literals are over variables 1 to `vars`, and there is none exactly in the last step.
-fn is_shaped(literals: &[Lit], is_last: bool, vars: u32) -> bool
-    ensures within { IsTrue result → All (λ l. l.var ≤ vars) literals.now }
-    ensures ended { IsTrue result → (literals.now ≡ []) ↔ IsTrue is_last }
-    ensures only { All (λ l. l.var ≤ vars) literals.now → ((literals.now ≡ []) ↔ IsTrue is_last) → IsTrue result }
-{
-    if literals.is_empty() != is_last {
-        return false;
-    }
-    literals.iter().all(|lit| lit.var() <= vars)
-}
-
-// Whether each step follows from the clauses and the steps before it.
-fn each_follows(alloc: Global, clauses: &Clauses, steps: &Steps) -> Result<bool, NoMemory>
-    requires numbered { steps.now.first ≡ length clauses.now.clauses + 1 }
-    requires within { All (λ step. All (λ l. l.var ≤ clauses.now.vars) step.literals) steps.now.steps }
-    ensures { IfOk result (λ yes. IsTrue yes ↔ EachFollows clauses.now.clauses steps.now.steps) }
-{
-    let mut assignment = Assignment::new(alloc, clauses.vars())?;
-    for k in 0..steps.len() {
-        if !follows(clauses, steps, k, &mut assignment)? {
-            return Ok(false);
-        }
-    }
-    Ok(true)
-}
-
-// Whether step k follows from the clauses and the steps before it. No literal is taken before or after.
-fn follows(
+// Whether step k passes, where those before it do. No literal is taken before or after.
+fn passes(
     clauses: &Clauses,
     steps: &Steps,
     k: u32,
@@ -83,16 +82,27 @@ fn follows(
 ) -> Result<bool, NoMemory>
     requires step { k < length steps.now.steps }
     requires numbered { steps.now.first ≡ length clauses.now.clauses + 1 }
-    requires within { All (λ step. All (λ l. l.var ≤ clauses.now.vars) step.literals) steps.now.steps }
+    requires within { AreWithin clauses.now.vars (take k steps.now.steps) }
     requires fresh { assignment.old ≡ record { vars = clauses.now.vars; trues = [] } }
     ensures exact { IfOk result (λ yes. (step : Step) → slice_get steps.now.steps k ≡ Some step
-        → IsTrue yes ↔ Follows (with_steps clauses.now.clauses (take k steps.now.steps)) step) }
+        → IsTrue yes ↔ Passes clauses.now (take k steps.now.steps) step) }
     ensures fresh { OnOk result (assignment.new ≡ assignment.old) }
 {
-    take_negations(steps.literals(k), assignment)?;
-    let leads = lead_to_false(clauses, steps, steps.hints(k), assignment)?;
+    let literals = steps.literals(k);
+    if !is_within(literals, clauses.vars()) {
+        return Ok(false);
+    }
+    take_negations(literals, assignment)?;
+    let leads = lead_to_false(clauses, steps, k, assignment)?;
     assignment.clear();
     Ok(leads)
+}
+
+// Whether literals are over variables 1 to `vars`.
+fn is_within(literals: &[Lit], vars: u32) -> bool
+    ensures { IsTrue result ↔ All (λ l. l.var ≤ vars) literals.now }
+{
+    literals.iter().all(|lit| lit.var() <= vars)
 }
 
 // Takes the negations of literals that ascend by variable.
@@ -108,23 +118,25 @@ fn take_negations(literals: &[Lit], assignment: &mut Assignment) -> Result<(), N
     Ok(())
 }
 
-// Whether hints lead from what is taken to a false clause.
+// Whether the hints of step k lead from what is taken to a false clause.
 fn lead_to_false(
     clauses: &Clauses,
     steps: &Steps,
-    hints: &[u32],
+    k: u32,
     assignment: &mut Assignment,
 ) -> Result<bool, NoMemory>
+    requires step { k < length steps.now.steps }
     requires numbered { steps.now.first ≡ length clauses.now.clauses + 1 }
-    requires within { All (λ step. All (λ l. l.var ≤ clauses.now.vars) step.literals) steps.now.steps }
-    requires before { All (λ h. (0 < h) × (h ≤ length clauses.now.clauses + length steps.now.steps)) hints.now }
+    requires within { AreWithin clauses.now.vars (take k steps.now.steps) }
     requires vars { assignment.old.vars ≡ clauses.now.vars }
-    ensures exact { IfOk result (λ yes. IsTrue yes ↔ LeadsToFalse (with_steps clauses.now.clauses steps.now.steps) assignment.old.trues hints.now) }
+    ensures exact { IfOk result (λ yes. (step : Step) → slice_get steps.now.steps k ≡ Some step
+        → IsTrue yes ↔ LeadsToFalse (with_steps clauses.now.clauses (take k steps.now.steps)) assignment.old.trues step.hints) }
     ensures vars { OnOk result (assignment.new.vars ≡ assignment.old.vars) }
 {
-    for (k, hint) in hints.iter().enumerate() {
+    let hints = steps.hints(k);
+    for (i, hint) in hints.iter().enumerate() {
         match left_of(assignment, clause_of(clauses, steps, *hint)) {
-            Left::Nothing => return Ok(k + 1 == hints.len()),
+            Left::Nothing => return Ok(i + 1 == hints.len()),
             Left::One(lit) => assignment.take(lit)?,
             Left::More => return Ok(false),
         }
@@ -132,14 +144,15 @@ fn lead_to_false(
     Ok(false)
 }
 
-// The clause of an id: one of the formula, or that of a step.
+// The clause of an id: one of the formula, or that of a step. Steps behind it change nothing of that.
 fn clause_of<'a>(clauses: &'a Clauses, steps: &'a Steps, id: u32) -> &'a [Lit]
     requires numbered { steps.now.first ≡ length clauses.now.clauses + 1 }
-    requires within { All (λ step. All (λ l. l.var ≤ clauses.now.vars) step.literals) steps.now.steps }
     requires above { 0 < id }
     requires below { id ≤ length clauses.now.clauses + length steps.now.steps }
-    ensures value { slice_get (with_steps clauses.now.clauses steps.now.steps) (id - 1) ≡ Some result.now }
-    ensures within { All (λ l. l.var ≤ clauses.now.vars) result.now }
+    ensures value { (k : ℕ) → id ≤ length clauses.now.clauses + k → k ≤ length steps.now.steps
+        → slice_get (with_steps clauses.now.clauses (take k steps.now.steps)) (id - 1) ≡ Some result.now }
+    ensures within { (k : ℕ) → id ≤ length clauses.now.clauses + k → AreWithin clauses.now.vars (take k steps.now.steps)
+        → All (λ l. l.var ≤ clauses.now.vars) result.now }
 {
     if id <= clauses.len() {
         clauses.clause(id)

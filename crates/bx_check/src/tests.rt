@@ -1,6 +1,6 @@
-//! Logs that are accepted and logs with each fault, and bits that satisfy or don't.
+//! Logs that are accepted, logs with each fault, and the first steps that fail.
 
-use crate::check;
+use crate::{check, first_failure};
 use bx_cnf::{Clauses, Lit, is_clause};
 use bx_proof::{Steps, is_step};
 use std::alloc::Global;
@@ -93,6 +93,35 @@ fn a_log_is_accepted_or_has_a_fault(rt: HostRuntime) -> Result<(), Fail> {
     ] {
         let steps = log(rt.alloc(), first, numbers)?;
         assert_eq!(rt; check(rt.alloc(), &clauses, &steps)?, want, "{numbers:?}");
+    }
+    Ok(())
+}
+
+// The first step that fails, or none where all pass, whether they end or not.
+#[test]
+fn the_first_failure_is_named(rt: HostRuntime) -> Result<(), Fail> {
+    let clauses = formula(rt.alloc(), 2, &SQUARE)?;
+    for (numbers, want) in [
+        ([].as_slice(), None),
+        ([1, 0, 1, 2, 0, 0, 5, 3, 4, 0].as_slice(), None),
+        ([1, 0, 1, 2, 0].as_slice(), None),
+        // behind an empty step too
+        ([0, 1, 0, 0, 5, 0].as_slice(), Some(0)),
+        ([1, 0, 1, 2, 0, 0, 5, 3, 4, 0, 2, 0, 6, 0].as_slice(), None),
+        ([1, 0, 1, 2, 0, 2, 0, 1, 0, 0, 5, 0].as_slice(), Some(1u32)),
+        // a variable that the formula doesn't have, and a step that stands on it
+        ([1, 3, 0, 1, 2, 0, 1, 0, 5, 0].as_slice(), Some(0)),
+        ([1, 0, 1, 2, 0, 1, 3, 0, 5, 0].as_slice(), Some(1)),
+    ] {
+        let steps = log(rt.alloc(), 5, numbers)?;
+        if u64::from(steps.first()) != u64::from(clauses.len()) + 1 {
+            return Err("ids begin elsewhere".into());
+        }
+        assert_eq!(rt;
+            first_failure(rt.alloc(), &clauses, &steps)?,
+            want,
+            "{numbers:?}"
+        );
     }
     Ok(())
 }

@@ -1,5 +1,5 @@
 -- A search learns no more clauses that aren't empty than its budget is: each costs one at least.
-use Rattle.std.proofs.Common.{◌≡◌, ◌≢◌, ℕ, zero, suc, ◌+◌, ◌<◌, ◌≤◌, List, [], ◌∷◌, ◌++◌, length, refl, ap, arith, length-append}
+use Rattle.std.proofs.Common.{◌≢◌, ℕ, zero, suc, ◌<◌, ◌≤◌, List, [], ◌∷◌, length, refl, ap, arith, length-append}
 use Rattle.bx_cnf.specs.Formulas.{Formula}
 use Rattle.bx_cnf.specs.Literals.{Literal}
 use Rattle.bx_search.specs.States.{State}

@@ -35,7 +35,7 @@ pub trait Pulse {
 }
 
 /// The pulse of a search that nothing stops. It says yes as often as 64 bits count, and no search asks so
-/// often.
+/// often: each ask is for a clause that was learned, which takes one of the budget at least.
 #[derive(Debug, Drop)]
 pub struct Steady {
     // how often the answer was yes
@@ -69,7 +69,7 @@ impl Steady {
 
 impl Pulse for Steady {
     ghost use Rattle.std.specs.Prelude.{◌≡◌, false};
-    ghost use Rattle.bx_search.specs.Beats.{beats, refusals};
+    ghost use Rattle.bx_search.specs.Beats.{beats, refusals, LeadsTo, leads-to_itself, leads-on};
 
     ghost asked = { λ p. beats p };
 
@@ -77,7 +77,7 @@ impl Pulse for Steady {
 
     ghost ready = { λ p. p.over ≡ false };
 
-    ghost leads = { λ p q. Unit {0} };
+    ghost leads = { LeadsTo };
 
     fn wanted(&mut self) -> bool {
         if self.yes == u64::MAX {
@@ -88,7 +88,7 @@ impl Pulse for Steady {
         true
     }
 
-    ghost leads_to_itself = { λ p. tt };
+    ghost leads_to_itself = { leads-to_itself };
 
-    ghost leads_on = { λ p q r a b. tt };
+    ghost leads_on = { leads-on };
 }

@@ -45,6 +45,9 @@ pub fn solve<P: Pulse>(
     ensures no_memory { OnErr result (P.stops pulse.new ≡ P.stops pulse.old) }
     ensures leads { P.leads pulse.old pulse.new }
 
+    // Where it wasn't stopped the pulse may be asked again.
+    ensures still_ready { IfOk result (λ end. end ≢ Outcome.Stopped → P.ready pulse.new) }
+
     // Bits that it gives are one for each variable, and make all clauses true.
     ensures solved { IfOk result (λ end. (bits : List Bool) → end ≡ Outcome.Sat bits
         → (length bits ≡ clauses.now.vars) × AllTrue bits clauses.now.clauses) }

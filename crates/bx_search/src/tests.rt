@@ -2,7 +2,8 @@
 ghost use Rattle.std.specs.Prelude.{◌≡◌, ◌<◌, ◌≤◌, ◌+◌, false, IsTrue};
 
 use crate::{Outcome, Pulse, solve};
-use bx_cnf::{Clauses, Lit, is_clause};
+use bx_cnf::{Bits, Clauses, Lit, is_clause};
+use bx_proof::Steps;
 use std::alloc::Global;
 use std::test::Fail;
 
@@ -61,8 +62,7 @@ fn formula(alloc: Global, vars: u32, numbers: &[i32]) -> Result<Clauses, Fail> {
     Ok(clauses)
 }
 
-// How a search ends, as one line: the bits, or the steps with the literals and hints of each, or what was
-// spent; and how often the pulse was asked.
+// How a search ends, as one line, and how often the pulse was asked.
 fn line(alloc: Global, clauses: &Clauses, budget: u64, yes: u64) -> Result<String, Fail> {
     if yes > 1000 || budget > 4_000_000_000 || u64::from(clauses.len()) > 294_967_295 {
         return Err("too much".into());
@@ -73,34 +73,52 @@ fn line(alloc: Global, clauses: &Clauses, budget: u64, yes: u64) -> Result<Strin
         stops: 0,
     };
     let end = solve(alloc, clauses, budget, &mut pulse)?;
-    let mut text = String::new(alloc);
-    match end {
-        Outcome::Sat(bits) => {
-            text.push_str("sat")?;
-            for bit in bits.as_slice() {
-                text.push_str(if *bit { " 1" } else { " 0" })?;
-            }
-        }
-        Outcome::Unsat(steps) => {
-            text.push_str("unsat")?;
-            for k in 0..steps.len() {
-                for lit in steps.literals(k) {
-                    text.push_str(format!(in alloc; " {}", lit.number())?.as_str())?;
-                }
-                text.push_str(" 0")?;
-                for hint in steps.hints(k) {
-                    text.push_str(format!(in alloc; " {hint}")?.as_str())?;
-                }
-                text.push_str(" 0")?;
-            }
-        }
-        Outcome::Undecided(spent) => {
-            text.push_str(format!(in alloc; "undecided {spent}")?.as_str())?;
-        }
-        Outcome::Stopped => text.push_str("stopped")?,
-    }
+    let mut text = words_of(alloc, &end)?;
     text.push_str(format!(in alloc; " asked {}", pulse.asked)?.as_str())?;
     Ok(text)
+}
+
+// How a search ends: the bits, or the steps with the literals and hints of each, or what was spent.
+fn words_of(alloc: Global, end: &Outcome) -> Result<String, Fail> {
+    match end {
+        Outcome::Sat(bits) => words_of_bits(alloc, bits),
+        Outcome::Unsat(steps) => words_of_steps(alloc, steps),
+        Outcome::Undecided(spent) => Ok(format!(in alloc; "undecided {spent}")?),
+        Outcome::Stopped => Ok(format!(in alloc; "stopped")?),
+    }
+}
+
+fn words_of_bits(alloc: Global, bits: &Bits) -> Result<String, Fail> {
+    let mut text = format!(in alloc; "sat")?;
+    for bit in bits.as_slice() {
+        text.push_str(if *bit { " 1" } else { " 0" })?;
+    }
+    Ok(text)
+}
+
+fn words_of_steps(alloc: Global, steps: &Steps) -> Result<String, Fail> {
+    let mut text = format!(in alloc; "unsat")?;
+    for k in 0..steps.len() {
+        push_step(alloc, steps.literals(k), steps.hints(k), &mut text)?;
+    }
+    Ok(text)
+}
+
+fn push_step(
+    alloc: Global,
+    literals: &[Lit],
+    hints: &[u32],
+    text: &mut String,
+) -> Result<(), Fail> {
+    for lit in literals {
+        text.push_str(format!(in alloc; " {}", lit.number())?.as_str())?;
+    }
+    text.push_str(" 0")?;
+    for hint in hints {
+        text.push_str(format!(in alloc; " {hint}")?.as_str())?;
+    }
+    text.push_str(" 0")?;
+    Ok(())
 }
 
 // All clauses over two variables, and all but the last.

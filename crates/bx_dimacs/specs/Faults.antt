@@ -1,0 +1,14 @@
+-- Lines that can't be read are counted from 1.
+use Rattle.std.specs.Prelude.{◌<◌, ⊤}
+use Rattle.bx_dimacs.specs.declared.fault.FormulaFault.{FormulaFault}
+use Rattle.bx_dimacs.specs.declared.fault.ProofFault.{ProofFault}
+use Rattle.bx_dimacs.specs.declared.fault.FormulaFault.TheVariants as formula
+use Rattle.bx_dimacs.specs.declared.fault.ProofFault.TheVariants as proof
+
+abbrev pub IsFormulaLine : FormulaFault → Type 0
+IsFormulaLine (formula.BadLine k) = 0 < k
+IsFormulaLine formula.NoMemory = ⊤
+
+abbrev pub IsProofLine : ProofFault → Type 0
+IsProofLine (proof.BadLine k) = 0 < k
+IsProofLine proof.NoMemory = ⊤

@@ -1,9 +1,9 @@
 -- Ratios in order: one refutation more, where they end, and that they end in one way.
-use Rattle.std.proofs.Common.{◌≡◌, ℕ, suc, ◌+◌, ◌*◌, ◌≤◌, List, [], ◌∷◌, ◌++◌, length, take, drop, Some, refl, sym, ap, ap₂, ◌∙◌, subst, arith, length-append}
+use Rattle.std.proofs.Common.{◌≡◌, ℕ, zero, suc, ◌+◌, ◌*◌, ◌≤◌, List, [], ◌∷◌, ◌++◌, length, take, drop, Some, refl, sym, ap, ap₂, ◌∙◌, subst, arith, length-append}
 use Rattle.std.proofs.Math.Seq.{take-suc, drop-cons}
 use Rattle.std.proofs.lemmas.List.{take-append-drop}
 use Rattle.std.proofs.lemmas.Option.{get_or_from_slice_get, slice_get_within}
-use Rattle.std.specs.Prelude.{slice_get}
+use Rattle.std.specs.Prelude.{slice_get, unwrap_or}
 use Rattle.bx_grid.specs.declared.ratio.Ratio.{Ratio}
 use Rattle.bx_grid.specs.Orders.{IsWithin, order}
 use Rattle.bx_grid.specs.Tiles.{tile_count, IsGrid}
@@ -12,12 +12,15 @@ use Rattle.bx_layout.specs.Permits.{PermitTest}
 use Rattle.bx_network.specs.Networks.{Network}
 use Rattle.bx_proof.specs.declared.refutation.Refutation.{Refutation}
 use Rattle.bx_verdict.specs.Verdicts.{IsVerdict}
-use Rattle.bx_verdict.specs.Settling.{AreInOrder, AreRefuted, IsLast, AreSettled}
+use Rattle.bx_verdict.specs.Settling.{AreInOrder, AreRefuted, IsLast, AreSettled, StandsBehind}
 use Rattle.bx_verdict.specs.declared.settled.Last.{Last}
 use Rattle.bx_verdict.specs.declared.settled.Last.TheVariants.{Found, Undecided, NoneWithin}
 use Rattle.bx_verdict.specs.declared.verdict.Verdict.{Verdict}
 use Rattle.bx_verdict.specs.declared.verdict.Verdict.TheVariants.{Refuted, Found as FoundHere, Undecided as UndecidedHere}
 use Rattle.bx_verdict.proofs.OneVerdict.{one-verdict}
+
+pub Some-same : {X : Type 0} (x y : X) → Some x ≡ Some y → x ≡ y
+Some-same x y e = ap (λ o. unwrap_or o x) e
 
 -- one item more of a list
 pub taken-more : {X : Type 0} (xs : List X) (k : ℕ) (x : X) → slice_get xs k ≡ Some x → take (k + 1) xs ≡ take k xs ++ x ∷ []
@@ -96,6 +99,27 @@ module _ (N : Network) (permit : PermitTest) (budget : ℕ) where
       subst (λ (rs : List Ratio). AreSettled N permit budget rs proofs NoneWithin) (take-append-drop k ratios)
       (settled-at (take k ratios) (drop k ratios) proofs NoneWithin so_far.refuted
       (subst (λ (rs : List Ratio). IsLast N permit budget rs NoneWithin) (sym over) tt))
+
+  -- ---- one for each
+
+  pub settled-each : (ratios : List Ratio) (proofs : List Refutation) (last : Last) → AreSettled N permit budget ratios proofs last → (k : ℕ) (proof : Refutation) → slice_get proofs k ≡ Some proof
+      → (r : Ratio) × (slice_get ratios k ≡ Some r) × IsVerdict N permit r budget (Refuted proof)
+  settled-each ratios [] last is k proof at = cc
+  settled-each [] (p ∷ ps) last is k proof at = absurd is
+  settled-each (r ∷ rs) (p ∷ ps) last is zero proof at = (r, refl, subst (λ (q : Refutation). IsVerdict N permit r budget (Refuted q)) (Some-same p proof at) is.0)
+  settled-each (r ∷ rs) (p ∷ ps) last is (suc k) proof at = settled-each rs ps last is.1 k proof at
+
+  pub settled-behind : (ratios : List Ratio) (proofs : List Refutation) (last : Last) → AreSettled N permit budget ratios proofs last → StandsBehind ratios (length proofs) last
+  settled-behind [] [] (Found q bits) is = absurd is
+  settled-behind [] [] (Undecided q spent) is = absurd is
+  settled-behind [] [] NoneWithin is = refl
+  settled-behind (r ∷ rs) [] (Found q bits) is = ap Some (sym is.0)
+  settled-behind (r ∷ rs) [] (Undecided q spent) is = ap Some (sym is.0)
+  settled-behind (r ∷ rs) [] NoneWithin is = absurd is
+  settled-behind [] (p ∷ ps) last is = absurd is
+  settled-behind (r ∷ rs) (p ∷ ps) (Found q bits) is = settled-behind rs ps (Found q bits) is.1
+  settled-behind (r ∷ rs) (p ∷ ps) (Undecided q spent) is = settled-behind rs ps (Undecided q spent) is.1
+  settled-behind (r ∷ rs) (p ∷ ps) NoneWithin is = ap suc (settled-behind rs ps NoneWithin is.1)
 
   -- ---- in one way
 

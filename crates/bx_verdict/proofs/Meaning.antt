@@ -24,7 +24,7 @@ use Rattle.bx_proof.specs.declared.refutation.Refutation.TheVariants.{Count, Cla
 use Rattle.bx_search.proofs.Accepting.{log-accepted}
 use Rattle.bx_search.proofs.Values.{search-solves}
 use Rattle.bx_verdict.specs.Refutations.{IsRefutedBy, LacksLayout}
-use Rattle.bx_verdict.specs.Verdicts.{IsEndOf, IsVerdict, LacksLayoutIfRefuted, AreTrueIfFound}
+use Rattle.bx_verdict.specs.Verdicts.{IsEndOf, IsVerdict, HoldsIfRefuted, LacksLayoutIfRefuted, AreTrueIfFound}
 use Rattle.bx_verdict.specs.declared.verdict.Verdict.{Verdict}
 use Rattle.bx_verdict.specs.declared.verdict.Verdict.TheVariants.{Refuted, Found, Undecided}
 
@@ -54,6 +54,11 @@ module _ (N : Network) (permit : PermitTest) (r : Ratio) where
       let (L, means) = means-some N permit r bits all in
       (L, means.ratio, means, legal N permit r bits L network grid all means)
 
+  pub verdict-holds : (budget : ℕ) (verdict : Verdict) → IsFormula (formula N permit r) → IsVerdict N permit r budget verdict → HoldsIfRefuted N permit r verdict
+  verdict-holds budget (Refuted proof) formed is = verdict-refutes budget proof formed is
+  verdict-holds budget (Found bits) formed is = tt
+  verdict-holds budget (Undecided spent) formed is = tt
+
   pub verdict-lacks : (budget : ℕ) (verdict : Verdict) → IsNetwork N → IsFormula (formula N permit r) → IsVerdict N permit r budget verdict → LacksLayoutIfRefuted N permit r verdict
   verdict-lacks budget (Refuted proof) network formed is = lacks proof network (verdict-refutes budget proof formed is)
   verdict-lacks budget (Found bits) network formed is = tt
@@ -76,6 +81,11 @@ module _ (N : Network) (permit : PermitTest) (r : Ratio) where
       → IfOk answer (IsVerdict N permit r budget)
   answer-is budget f (Ok verdict) same none ends = ended-is budget verdict none (subst (λ (g : Formula). IsEndOf g budget verdict) same ends)
   answer-is budget f (Err e) same none ends = tt
+
+  pub answer-holds : {E : Type 0} (budget : ℕ) (f : Formula) (answer : Result Verdict E) → f ≡ formula N permit r → IsFormula f → IsFirst (Refutes N r) None → IfOk answer (IsEndOf f budget)
+      → IfOk answer (HoldsIfRefuted N permit r)
+  answer-holds budget f (Ok verdict) same formed none ends = verdict-holds budget verdict (subst IsFormula same formed) (ended-is budget verdict none (subst (λ (g : Formula). IsEndOf g budget verdict) same ends))
+  answer-holds budget f (Err e) same formed none ends = tt
 
   pub answer-lacks : {E : Type 0} (budget : ℕ) (f : Formula) (answer : Result Verdict E) → f ≡ formula N permit r → IsNetwork N → IsFormula f → IsFirst (Refutes N r) None → IfOk answer (IsEndOf f budget)
       → IfOk answer (LacksLayoutIfRefuted N permit r)

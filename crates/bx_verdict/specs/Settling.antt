@@ -1,6 +1,6 @@
 -- What is known of ratios in order: the refutations of all before the first that isn't refuted, and what is
 -- known of that one.
-use Rattle.std.specs.Prelude.{◌≡◌, ℕ, List, [], ◌∷◌, ⊤}
+use Rattle.std.specs.Prelude.{◌≡◌, ◌<◌, ℕ, List, [], ◌∷◌, length, slice_get, Some, ⊤}
 use Rattle.bx_decode.specs.Meaning.{AreTrue}
 use Rattle.bx_grid.specs.Orders.{AreLimits, order}
 use Rattle.bx_grid.specs.declared.ratio.Limits.{Limits}
@@ -8,6 +8,7 @@ use Rattle.bx_grid.specs.declared.ratio.Ratio.{Ratio}
 use Rattle.bx_layout.specs.Permits.{PermitTest}
 use Rattle.bx_network.specs.Networks.{Network}
 use Rattle.bx_proof.specs.declared.refutation.Refutation.{Refutation}
+use Rattle.bx_verdict.specs.Refutations.{IsRefutedBy, LacksLayout}
 use Rattle.bx_verdict.specs.Verdicts.{IsVerdict}
 use Rattle.bx_verdict.specs.declared.settled.Last.{Last}
 use Rattle.bx_verdict.specs.declared.settled.Last.TheVariants.{Found, Undecided, NoneWithin}
@@ -45,3 +46,18 @@ abbrev pub AreTrueAtLast : Network → PermitTest → Last → Type 0
 AreTrueAtLast N permit (Found r bits) = AreTrue N permit r bits
 AreTrueAtLast N permit (Undecided r spent) = ⊤
 AreTrueAtLast N permit NoneWithin = ⊤
+
+-- each refutation refutes the ratio at its place
+abbrev pub RefuteInOrder : Network → PermitTest → List Ratio → List Refutation → Type 0
+RefuteInOrder N permit ratios proofs = (k : ℕ) (proof : Refutation) → slice_get proofs k ≡ Some proof
+    → (r : Ratio) × (slice_get ratios k ≡ Some r) × IsRefutedBy N permit r proof
+
+-- each of the first so many ratios lacks a layout
+abbrev pub LackLayouts : Network → PermitTest → List Ratio → ℕ → Type 0
+LackLayouts N permit ratios count = (k : ℕ) (r : Ratio) → k < count → slice_get ratios k ≡ Some r → LacksLayout N permit r
+
+-- the ratio of which the last thing is known stands right behind the first so many, and there is none where these are all
+abbrev pub StandsBehind : List Ratio → ℕ → Last → Type 0
+StandsBehind ratios count (Found r bits) = slice_get ratios count ≡ Some r
+StandsBehind ratios count (Undecided r spent) = slice_get ratios count ≡ Some r
+StandsBehind ratios count NoneWithin = count ≡ length ratios

@@ -15,7 +15,7 @@ use Rattle.bx_search.specs.declared.outcome.Outcome.{Outcome}
 use Rattle.bx_search.specs.declared.outcome.Outcome.TheVariants.{Sat, Unsat, Undecided as Unfinished}
 use Rattle.bx_verdict.specs.declared.verdict.Verdict.{Verdict}
 use Rattle.bx_verdict.specs.declared.verdict.Verdict.TheVariants.{Refuted, Found, Undecided}
-use Rattle.bx_verdict.specs.Refutations.{LacksLayout}
+use Rattle.bx_verdict.specs.Refutations.{IsRefutedBy, LacksLayout}
 
 -- the search of the formula within the budget ends so, however many clauses it learns
 abbrev pub EndsWith : Formula → ℕ → Outcome → Type 0
@@ -39,7 +39,13 @@ module _ (N : Network) (permit : PermitTest) (r : Ratio) (budget : ℕ) where
   IsVerdict (Found bits) = IsSearched (Found bits)
   IsVerdict (Undecided spent) = IsSearched (Undecided spent)
 
--- What a verdict says of layouts: a refuted ratio has none, and the bits of a found one are true.
+-- What a verdict says: the refutation of a refuted ratio refutes it, such a ratio has no layout, and the bits of a
+-- found one are true.
+abbrev pub HoldsIfRefuted : Network → PermitTest → Ratio → Verdict → Type 0
+HoldsIfRefuted N permit r (Refuted proof) = IsRefutedBy N permit r proof
+HoldsIfRefuted N permit r (Found bits) = ⊤
+HoldsIfRefuted N permit r (Undecided spent) = ⊤
+
 abbrev pub LacksLayoutIfRefuted : Network → PermitTest → Ratio → Verdict → Type 0
 LacksLayoutIfRefuted N permit r (Refuted proof) = LacksLayout N permit r
 LacksLayoutIfRefuted N permit r (Found bits) = ⊤

@@ -1,6 +1,6 @@
 //! Laws about the definitions alone, each the clause of a function with an empty body, so that a reader
 //! can trust what the contracts say. Nothing here runs.
-ghost use Rattle.std.specs.Prelude.{◌≡◌, ◌≤◌, ℕ, List, Bool, length};
+ghost use Rattle.std.specs.Prelude.{◌≡◌, ◌≤◌, ℕ, List, Bool, Some, length, slice_get};
 ghost use Rattle.bx_cnf.specs.Formulas.{IsFormula};
 ghost use Rattle.bx_decode.specs.Meaning.{AreTrue, Means};
 ghost use Rattle.bx_encode.specs.Formula.{formula};
@@ -13,7 +13,7 @@ ghost use Rattle.bx_layout.specs.Permits.{PermitTest};
 ghost use Rattle.bx_network.specs.Networks.{Network, IsNetwork};
 ghost use Rattle.bx_proof.specs.declared.refutation.Refutation.{Refutation};
 ghost use Rattle.bx_verdict.specs.Refutations.{IsRefutedBy, LacksLayout};
-ghost use Rattle.bx_verdict.specs.Settling.{AreSettled};
+ghost use Rattle.bx_verdict.specs.Settling.{AreSettled, StandsBehind};
 ghost use Rattle.bx_verdict.specs.Sizes.{most_clauses};
 ghost use Rattle.bx_verdict.specs.Verdicts.{IsVerdict};
 ghost use Rattle.bx_verdict.specs.declared.settled.Last.{Last};
@@ -50,6 +50,16 @@ pub fn a_ratio_has_one_verdict()
 pub fn ratios_are_settled_in_one_way()
     ensures { (N : Network) (permit : PermitTest) (budget : ℕ) (ratios : List Ratio) (proofs others : List Refutation) (last end : Last)
         → AreSettled N permit budget ratios proofs last → AreSettled N permit budget ratios others end → (proofs ≡ others) × (last ≡ end) }
+{}
+
+/// Refutations stand in the order of their ratios, one for each from the first on, and what is known last is of the
+/// ratio right behind these.
+pub fn refutations_stand_in_order()
+    ensures each { (N : Network) (permit : PermitTest) (budget : ℕ) (ratios : List Ratio) (proofs : List Refutation) (last : Last)
+        → AreSettled N permit budget ratios proofs last → (k : ℕ) (proof : Refutation) → slice_get proofs k ≡ Some proof
+        → (r : Ratio) × (slice_get ratios k ≡ Some r) × IsVerdict N permit r budget (Refuted proof) }
+    ensures behind { (N : Network) (permit : PermitTest) (budget : ℕ) (ratios : List Ratio) (proofs : List Refutation) (last : Last)
+        → AreSettled N permit budget ratios proofs last → StandsBehind ratios (length proofs) last }
 {}
 
 /// The formula of a network of at most 96 nodes on a grid of at most 144 tiles has 20,000,000 clauses at most.

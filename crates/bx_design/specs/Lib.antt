@@ -1,0 +1,5 @@
+pub mod Certificates
+pub mod Designs
+pub mod Making
+pub mod Meaning
+pub mod Permits

@@ -1,0 +1,8 @@
+pub mod Fields
+pub mod OneLine
+pub mod Fronts
+pub mod OneDesign
+pub mod Stops
+pub mod Putting
+pub mod Order
+pub mod Written

@@ -6,11 +6,13 @@
 use bx_desk::{OpenGate, StdDesk};
 use bx_engine::{Status, run};
 use std::alloc::AllocError;
-use std::env;
 use std::io::ErrorKind;
 use std::process::ExitCode;
+use std::rt::Files;
+use std::{env, fs};
 
 fn main(rt: HostRuntime) -> ExitCode {
+    let _standard = [null(&rt), null(&rt), null(&rt)];
     let status = match words(&rt) {
         Ok(words) => run(&rt, rt.alloc(), &words, &mut StdDesk::new(&rt), &OpenGate),
         Err(AllocError) => Status::NoMemory,
@@ -26,4 +28,11 @@ fn words(rt: &HostRuntime) -> Result<Vec<String>, AllocError> {
         Err(error) if error.kind() == ErrorKind::OutOfMemory => Err(AllocError),
         Err(_) => Ok(Vec::new(rt.alloc())),
     }
+}
+
+// An open file that can't be written. The system gives a new file the least number that is free: where
+// standard output is closed, that would be its own, and what is said would go into the certificate. So the
+// three numbers of standard files are taken before any other file is opened.
+fn null<R: Files>(rt: &R) -> Option<R::File> {
+    fs::open(rt, "/dev/null").ok()
 }

@@ -1,52 +1,103 @@
--- What an input gives is one answer.
-use Rattle.std.proofs.Common.{◌≡◌, List, Option, Some, None, sym, ◌∙◌, ap, subst, refl}
-use Rattle.std.specs.Prelude.{String, option_and_then}
+-- What an input gives is one answer, and a settled one.
+use Rattle.std.proofs.Common.{◌≡◌, List, Some, None, sym, ◌∙◌, ap, subst}
+use Rattle.bx_cert.specs.Certs.{Certificate}
+use Rattle.bx_cert.specs.Texts.{cert_text}
 use Rattle.bx_desk.specs.Desk.{Files}
+use Rattle.bx_design.specs.Designs.{IsDesign}
+use Rattle.bx_design.proofs.OneDesign.{one-design}
+use Rattle.bx_design.specs.declared.ending.Ending.{Ending}
+use Rattle.bx_design.specs.declared.ending.Ending.TheVariants.{Found as FoundIn, Undecided as UndecidedAt, NoneWithin as NoneIn}
+use Rattle.bx_layout.specs.Permits.{all_forms}
 use Rattle.bx_syntax.specs.Parts.{ModuleTree}
 use Rattle.bx_verilog.specs.Formulas.{Text}
+use Rattle.bx_words.specs.declared.faults.WordFault.{WordFault}
 use Rattle.bx_engine.specs.declared.status.InputFault.{InputFault}
 use Rattle.bx_engine.specs.declared.status.Status.{Status}
-use Rattle.bx_engine.specs.declared.status.Status.TheVariants.{Found, Refused}
-use Rattle.bx_layout.specs.Grids.{FormGrid}
-use Rattle.bx_says.specs.Reports.{report_text}
-use Rattle.bx_engine.specs.Said.{refusal_text, input_fault_text}
-use Rattle.bx_engine.specs.Told.{net_word, net_text, HasText}
-use Rattle.bx_engine.specs.Answers.{IsRefused, IsLaidOut, IsGridOf, layout_of, report, IsAnswer, no_command, refused, laid_out}
+use Rattle.bx_engine.specs.declared.status.Status.TheVariants.{Words, Refused}
+use Rattle.bx_engine.specs.Said.{word_fault_text, input_fault_text}
+use Rattle.bx_engine.specs.Statuses.{IsSettled, IsSearched, status_of}
+use Rattle.bx_engine.specs.Tasks.{Task, IsTask}
+use Rattle.bx_engine.specs.Texts.{network_of}
+use Rattle.bx_engine.specs.Answers.{Answer, Written, IsAnswerTo, IsAnswer, refusal, designed, refused, searched, misused, answered}
 use Rattle.bx_engine.proofs.Readings.{refused_once, not_both, one_module}
-use Rattle.bx_engine.proofs.Layouts.{one-grid}
+use Rattle.bx_engine.proofs.Tasks.{one_task}
 
--- refusals for one fault are one
-one_refusal : (f g : InputFault) → f ≡ g → (Refused f ≡ Refused g) × (refusal_text (input_fault_text f) ≡ refusal_text (input_fault_text g))
-one_refusal f g same = (ap Refused same, ap (λ (x : InputFault). refusal_text (input_fault_text x)) same)
+-- ---- statuses
 
-module _ {A : Type 0} (words : List (String A)) (told : Option Files) where
-  pub one_answer_of_words : (s t : Status) (x y : Text) → net_word words ≡ None → IsAnswer words told s x → IsAnswer words told t y → (s ≡ t) × (x ≡ y)
-  one_answer_of_words _ _ _ _ none (no_command a) (no_command b) = (refl, refl)
-  one_answer_of_words _ _ _ _ none (refused net text f named there has is) b = let lost : None ≡ Some net = sym none ∙ named in cc
-  one_answer_of_words _ _ _ _ none (laid_out net text m k named there has is grid) b = let lost : None ≡ Some net = sym none ∙ named in cc
-  one_answer_of_words _ _ _ _ none (no_command a) (refused net text f named there has is) = let lost : None ≡ Some net = sym none ∙ named in cc
-  one_answer_of_words _ _ _ _ none (no_command a) (laid_out net text m k named there has is grid) = let lost : None ≡ Some net = sym none ∙ named in cc
+status_settled : (end : Ending) → IsSettled (status_of end)
+status_settled (FoundIn L g) = tt
+status_settled (UndecidedAt ratio spent) = tt
+status_settled NoneIn = tt
 
-  -- words that name no file have no text
-  pub no_text : (text : Text) → net_word words ≡ None → net_text words told ≡ Some text → ⊥
-  no_text text none e = let lost : None ≡ Some text = sym (ap (option_and_then (λ (net : Text). option_and_then (λ files. files net) told)) none) ∙ e in cc
+pub status_searched : (end : Ending) → IsSearched (status_of end)
+status_searched (FoundIn L g) = tt
+status_searched (UndecidedAt ratio spent) = tt
+status_searched NoneIn = tt
 
-  module _ (text : Text) (e : net_text words told ≡ Some text) where
-    -- what is known of a text that the file has is known of this one
-    pub of_this : (P : Text → Type 0) (other : Text) → HasText words told other → P other → P text
-    of_this P other has p = subst P (sym (has text e)) p
+pub searched_settled : (status : Status) (end : Ending) → status ≡ status_of end → IsSettled status
+searched_settled status end e = subst IsSettled (sym e) (status_settled end)
 
-    pub one_answer_of_text : (s t : Status) (x y : Text) → IsAnswer words told s x → IsAnswer words told t y → (s ≡ t) × (x ≡ y)
-    one_answer_of_text _ _ _ _ (no_command none) b = absurd (no_text text none e)
-    one_answer_of_text _ _ _ _ (refused net u f named there has is) (no_command none) = absurd (no_text text none e)
-    one_answer_of_text _ _ _ _ (refused net u f named there has is) (refused net' v g named' there' has' is') =
-        one_refusal f g (refused_once text f g (of_this (λ t. IsRefused t f) u has is) (of_this (λ t. IsRefused t g) v has' is'))
-    one_answer_of_text _ _ _ _ (refused net u f named there has is) (laid_out net' v m k named' there' has' is' grid') =
-        absurd (not_both text m f (of_this (λ t. IsLaidOut t m) v has' is') (of_this (λ t. IsRefused t f) u has is))
-    one_answer_of_text _ _ _ _ (laid_out net u m j named there has is grid) (no_command none) = absurd (no_text text none e)
-    one_answer_of_text _ _ _ _ (laid_out net u m j named there has is grid) (refused net' v f named' there' has' is') =
-        absurd (not_both text m f (of_this (λ t. IsLaidOut t m) u has is) (of_this (λ t. IsRefused t f) v has' is'))
-    one_answer_of_text _ _ _ _ (laid_out net u m j named there has is grid) (laid_out net' v n k named' there' has' is' grid') =
-        let same = one_module text m n (of_this (λ t. IsLaidOut t m) u has is) (of_this (λ t. IsLaidOut t n) v has' is') in
-        let grids : j ≡ k = one-grid n j k (subst (λ (t : ModuleTree). IsGridOf t j) same grid) grid' in
-        (ap (λ (t : ModuleTree). Found (layout_of t).ratio) same, ap (λ (t : ModuleTree). report_text (report t j)) same ∙ ap (λ (g : FormGrid). report_text (report n g)) grids)
+-- ---- the answer to a task
+
+module _ (task : Task) (text : Text) where
+  pub one_to_text : (one other : Answer) → IsAnswerTo task text one → IsAnswerTo task text other → one ≡ other
+  one_to_text _ _ (refused f is) (refused g are) =
+      ap (λ (x : InputFault). refusal (Refused x) (input_fault_text x)) (refused_once text f g is are)
+  one_to_text _ _ (refused f is) (searched m cert end taken design) = absurd (not_both text m f taken is)
+  one_to_text _ _ (searched m cert end taken design) (refused f is) = absurd (not_both text m f taken is)
+  one_to_text _ _ (searched m cert end taken design) (searched n other last takes designs) =
+      let same : m ≡ n = one_module text m n taken takes in
+      let moved : IsDesign (network_of n) all_forms task.limits task.budget cert end =
+      subst (λ (t : ModuleTree). IsDesign (network_of t) all_forms task.limits task.budget cert end) same design in
+      let one = one-design (network_of n) all_forms task.limits task.budget cert other end last moved designs in
+      ap (λ (t : ModuleTree). designed task t cert end) same
+      ∙ ap (λ (c : Certificate). designed task n c end) one.0
+      ∙ ap (λ (e : Ending). designed task n other e) one.1
+
+  settled_to_text : (answer : Answer) → IsAnswerTo task text answer → IsSettled answer.status
+  settled_to_text _ (refused f is) = tt
+  settled_to_text _ (searched m cert end taken design) = status_settled end
+
+  file_of_text : (answer : Answer) (file : Written) → IsAnswerTo task text answer → answer.file ≡ Some file → task.cert ≡ file.name
+  file_of_text _ file (refused f is) e = let lost : None ≡ Some file = e in cc
+  file_of_text _ file (searched m cert end taken design) e =
+      let whole : Written = record { name = task.cert; text = cert_text cert } in
+      let same : Some whole ≡ Some file = e in
+      let one : whole ≡ file = cc in
+      ap (λ (f : Written). f.name) one
+
+-- ---- the answer to words
+
+module _ (words : List Text) (files : Files) where
+  -- an answer to words that ask for a task is one to its text
+  pub to_text : (answer : Answer) (task : Task) (text : Text) → IsAnswer words files answer → IsTask words task → files task.net ≡ Some text → IsAnswerTo task text answer
+  to_text _ task text (misused f is) asks there = let lost : Some f ≡ None = sym is ∙ asks.no_fault in absurd (cc)
+  to_text _ task text (answered other found answer are has is) asks there =
+      let tasks : other ≡ task = one_task words other task are asks in
+      let has_too : files task.net ≡ Some found = subst (λ (t : Task). files t.net ≡ Some found) tasks has in
+      let same : Some found ≡ Some text = sym has_too ∙ there in
+      let one : found ≡ text = cc in
+      subst (λ (x : Text). IsAnswerTo task x answer) one (subst (λ (t : Task). IsAnswerTo t found answer) tasks is)
+
+  pub one_answer : (one other : Answer) → IsAnswer words files one → IsAnswer words files other → one ≡ other
+  one_answer _ _ (misused f is) (misused g are) =
+      let same : Some f ≡ Some g = sym is ∙ are in
+      let faults : f ≡ g = cc in
+      ap (λ (x : WordFault). refusal (Words x) (word_fault_text x)) faults
+  one_answer _ _ (misused f is) (answered task text other asks there to) = let lost : Some f ≡ None = sym is ∙ asks.no_fault in absurd (cc)
+  one_answer one _ (answered task text a asks there to) (misused f is) = let lost : Some f ≡ None = sym is ∙ asks.no_fault in absurd (cc)
+  one_answer _ other (answered task text one asks there to) are = one_to_text task text one other to (to_text other task text are asks there)
+
+  pub settled_answer : (answer : Answer) → IsAnswer words files answer → IsSettled answer.status
+  settled_answer _ (misused f is) = tt
+  settled_answer _ (answered task text answer asks there to) = settled_to_text task text answer to
+
+  -- the only file that is written is the task's
+  pub file_of : (answer : Answer) (file : Written) → IsAnswer words files answer → answer.file ≡ Some file → (task : Task) × IsTask words task × (task.cert ≡ file.name)
+  file_of _ file (misused f is) e = let lost : None ≡ Some file = e in absurd (cc)
+  file_of _ file (answered task text answer asks there to) e = (task, asks, file_of_text task text answer file to e)
+
+-- the answer is a function of the file that is asked for
+pub by_name : (words : List Text) (files others : Files) (answer : Answer) → ((task : Task) → IsTask words task → others task.net ≡ files task.net) → IsAnswer words files answer → IsAnswer words others answer
+by_name words files others _ same (misused f is) = misused f is
+by_name words files others _ same (answered task text answer asks there to) = answered task text answer asks (same task asks ∙ there) to

@@ -1,168 +1,344 @@
 -- What each clause of a run says, from how the run ended.
-use Rattle.std.proofs.Common.{◌≡◌, arith, List, Option, Some, None, sym, ◌∙◌, ap, subst, refl}
-use Rattle.std.specs.Prelude.{String, IsSome}
-use Rattle.bx_desk.specs.Desk.{Counts, DeskState, Rose, FailsToLoad, Says, SaysFront}
-use Rattle.bx_syntax.specs.Parts.{ModuleTree}
-use Rattle.bx_verilog.specs.Formulas.{Text}
-use Rattle.bx_verilog.specs.Equations.{module_of}
-use Rattle.bx_verilog.specs.Elaboration.{net_of}
+use Rattle.std.proofs.Common.{◌≡◌, ◌≢◌, ◌⊎◌, inl, inr, ℕ, List, Option, Some, None, sym, ◌∙◌, ap, subst, refl}
+use Rattle.std.specs.Prelude.{IsSome}
+use Rattle.bx_cert.specs.Certs.{Certificate}
+use Rattle.bx_cert.specs.Texts.{cert_text}
+use Rattle.bx_desk.specs.Desk.{DeskState, Files, FailsToLoad, Says}
+use Rattle.bx_design.specs.Designs.{IsDesign}
+use Rattle.bx_design.specs.declared.ending.Ending.{Ending}
+use Rattle.bx_design.specs.declared.ending.Ending.TheVariants.{Found as FoundIn, Undecided as UndecidedAt, NoneWithin as NoneIn}
 use Rattle.bx_grid.specs.declared.ratio.Ratio.{Ratio}
+use Rattle.bx_layout.specs.Permits.{all_forms}
+use Rattle.bx_syntax.specs.Parts.{ModuleTree}
+use Rattle.bx_verilog.specs.Elaboration.{net_of}
+use Rattle.bx_verilog.specs.Formulas.{Text}
+use Rattle.bx_words.specs.Words.{first_fault}
+use Rattle.bx_words.specs.declared.faults.WordFault.{WordFault}
 use Rattle.bx_engine.specs.declared.status.InputFault.{InputFault}
 use Rattle.bx_engine.specs.declared.status.Status.{Status}
-use Rattle.bx_engine.specs.declared.status.Status.TheVariants.{Found, Refused, ReadFault, WriteFault, NoMemory}
+use Rattle.bx_engine.specs.declared.status.Status.TheVariants.{Found, Undecided, NoneWithin, Refused, ReadFault, WriteFault, NoMemory, Words}
 use Rattle.bx_engine.specs.declared.status.Which.{Which}
-use Rattle.bx_engine.specs.declared.status.Which.TheVariants.{NetFile, Output}
-use Rattle.bx_engine.specs.Statuses.{IsSettled}
-use Rattle.bx_layout.specs.Grids.{FormGrid}
-use Rattle.bx_says.specs.Reports.{report_text}
-use Rattle.bx_engine.specs.Told.{net_word, net_text, IsThere}
-use Rattle.bx_engine.specs.Answers.{IsRefused, IsLaidOut, IsGridOf, IsAnswer, network_of, layout_of, report, no_command, refused as refused_for, laid_out}
-use Rattle.bx_engine.specs.Layouts.{IsLayout}
-use Rattle.bx_engine.specs.Outcomes.{Outcome, answered, unsaid, unread, no_memory, NoneFell}
-use Rattle.bx_engine.proofs.Answers.{no_text, of_this}
+use Rattle.bx_engine.specs.declared.status.Which.TheVariants.{NetFile}
+use Rattle.bx_engine.specs.Said.{ending_text, refusal_text, word_fault_text, input_fault_text}
+use Rattle.bx_engine.specs.Statuses.{IsSettled, IsSearched, status_of}
+use Rattle.bx_engine.specs.Tasks.{Task, IsTask, AreTold, IsToldText, IsThere}
+use Rattle.bx_engine.specs.Texts.{IsRefused, IsTaken, network_of}
+use Rattle.bx_engine.specs.Answers.{Answer, Written, IsAnswerTo, IsAnswer, refusal, designed, refused as refused_for, searched as searched_so, misused, answered as answers}
+use Rattle.bx_engine.specs.Effects.{Gives, HasGiven, FailsToGive, NoneFell, RoseAt, file_at}
+use Rattle.bx_engine.specs.Outcomes.{HasAnswer, Outcome, given, ungiven, unread, no_memory}
+use Rattle.bx_engine.specs.Worth.{IsFound, IsLeftUndecided, IsNoneWithin}
+use Rattle.bx_engine.proofs.Answers.{status_searched, one_answer, to_text, settled_answer, file_of}
+use Rattle.bx_engine.proofs.Effects.{file_there, given_no_fault, given_others, ungiven_others, none_fell_same, none_fell_ungiven, none_fell_load, rose_ungiven, said_on}
 use Rattle.bx_engine.proofs.Readings.{refused_once, not_both, one_module}
-use Rattle.bx_engine.proofs.Layouts.{layout-is}
+use Rattle.bx_engine.proofs.Tasks.{one_task}
+use Rattle.bx_engine.proofs.Worth.{found-is, undecided-is, none-is}
 
-module _ {A : Type 0} (words : List (String A)) (old new : DeskState) where
-  pub answer_said : (r : Status) → Outcome words old new r → IsSettled r → (text : Text) × IsAnswer words old.files r text × Says old new text
-  answer_said _ (answered status text is adds) settled = (text, is, adds)
-  answer_said _ (unsaid _ _ a front) settled = absurd settled
-  answer_said _ (unread net named fails) settled = absurd settled
-  answer_said _ (no_memory same) settled = absurd settled
+-- ---- what an answer's status says
 
-  pub refused_only : (r : Status) → Outcome words old new r → (fault : InputFault) → r ≡ Refused fault → (text : Text) → net_text words old.files ≡ Some text → IsRefused text fault
-  refused_only _ (answered _ _ (no_command none) adds) fault e text t = cc
-  refused_only _ (answered _ _ (refused_for net u f named there has is) adds) fault e text t =
-      let given : Refused f ≡ Refused fault = e in
+module _ (task : Task) (text : Text) where
+  no_words : (a : Answer) (fault : WordFault) → IsAnswerTo task text a → a.status ≡ Words fault → ⊥
+  no_words _ fault (refused_for f is) e = let lost : Refused f ≡ Words fault = e in cc
+  no_words _ fault (searched_so m cert end taken design) e = subst IsSearched e (status_searched end)
+
+  refused_of : (a : Answer) (fault : InputFault) → IsAnswerTo task text a → a.status ≡ Refused fault → IsRefused text fault
+  refused_of _ fault (refused_for f is) e =
+      let both : Refused f ≡ Refused fault = e in
       let same : f ≡ fault = cc in
-      subst (IsRefused text) same (of_this words old.files text t (λ x. IsRefused x f) u has is)
-  refused_only _ (answered _ _ (laid_out net u m k named there has is grid) adds) fault e text t = cc
-  refused_only _ (unsaid _ _ a front) fault e text t = cc
-  refused_only _ (unread net named fails) fault e text t = cc
-  refused_only _ (no_memory same) fault e text t = cc
+      subst (IsRefused text) same is
+  refused_of _ fault (searched_so m cert end taken design) e = absurd (subst IsSearched e (status_searched end))
 
-  pub refused : (r : Status) → Outcome words old new r → IsSettled r → (text : Text) → net_text words old.files ≡ Some text → (fault : InputFault) → IsRefused text fault → r ≡ Refused fault
-  refused _ (answered _ _ (no_command none) adds) settled text t fault h = absurd (no_text words old.files text none t)
-  refused _ (answered _ _ (refused_for net u f named there has is) adds) settled text t fault h =
-      ap Refused (refused_once text f fault (of_this words old.files text t (λ x. IsRefused x f) u has is) h)
-  refused _ (answered _ _ (laid_out net u m k named there has is grid) adds) settled text t fault h =
-      absurd (not_both text m fault (of_this words old.files text t (λ x. IsLaidOut x m) u has is) h)
-  refused _ (unsaid _ _ a front) settled text t fault h = absurd settled
-  refused _ (unread net named fails) settled text t fault h = absurd settled
-  refused _ (no_memory same) settled text t fault h = absurd settled
+  refused_gives : (a : Answer) (fault : InputFault) → IsAnswerTo task text a → IsRefused text fault → a.status ≡ Refused fault
+  refused_gives _ fault (refused_for f is) h = ap Refused (refused_once text f fault is h)
+  refused_gives _ fault (searched_so m cert end taken design) h = absurd (not_both text m fault taken h)
 
-  pub found_only : (r : Status) → Outcome words old new r → (ratio : Ratio) → r ≡ Found ratio → (text : Text) → net_text words old.files ≡ Some text → (m : ModuleTree) × IsLaidOut text m × (ratio ≡ (layout_of m).ratio)
-  found_only _ (answered _ _ (no_command none) adds) ratio e text t = cc
-  found_only _ (answered _ _ (refused_for net u f named there has is) adds) ratio e text t = cc
-  found_only _ (answered _ _ (laid_out net u m g named there has is grid) adds) ratio e text t =
-      (m, of_this words old.files text t (λ x. IsLaidOut x m) u has is, let one : Found (layout_of m).ratio ≡ Found ratio = e in cc)
-  found_only _ (unsaid _ _ a front) ratio e text t = cc
-  found_only _ (unread net named fails) ratio e text t = cc
-  found_only _ (no_memory same) ratio e text t = cc
+  -- an answer whose status says that the ratios were searched is that of a design
+  pub record IsDesigned (m : ModuleTree) (a : Answer) : Type 0 where
+    pub cert : Certificate
+    pub end : Ending
+    pub design : IsDesign (network_of m) all_forms task.limits task.budget cert end
+    pub same : a ≡ designed task m cert end
 
-  pub found : (r : Status) → Outcome words old new r → IsSettled r → (text : Text) → net_text words old.files ≡ Some text → (m : ModuleTree) → IsLaidOut text m → r ≡ Found (layout_of m).ratio
-  found _ (answered _ _ (no_command none) adds) settled text t m h = absurd (no_text words old.files text none t)
-  found _ (answered _ _ (refused_for net u f named there has is) adds) settled text t m h =
-      absurd (not_both text m f h (of_this words old.files text t (λ x. IsRefused x f) u has is))
-  found _ (answered _ _ (laid_out net u n g named there has is grid) adds) settled text t m h =
-      ap (λ (x : ModuleTree). Found (layout_of x).ratio) (one_module text n m (of_this words old.files text t (λ x. IsLaidOut x n) u has is) h)
-  found _ (unsaid _ _ a front) settled text t m h = absurd settled
-  found _ (unread net named fails) settled text t m h = absurd settled
-  found _ (no_memory same) settled text t m h = absurd settled
+  searched_of : (a : Answer) → IsAnswerTo task text a → IsSearched a.status → (m : ModuleTree) × IsTaken text m × IsDesigned m a
+  searched_of _ (refused_for f is) searched = absurd searched
+  searched_of _ (searched_so m cert end taken design) searched = (m, taken, record { cert = cert; end = end; design = design; same = refl })
 
-  abbrev SaysReport : ModuleTree → Type 0
-  SaysReport m = (g : FormGrid) × IsGridOf m g × Says old new (report_text (report m g))
+  designed_of : (a : Answer) (m : ModuleTree) → IsAnswerTo task text a → IsTaken text m → IsDesigned m a
+  designed_of _ m (refused_for f is) taken = absurd (not_both text m f taken is)
+  designed_of _ m (searched_so n cert end takes design) taken =
+      subst (λ (t : ModuleTree). IsDesigned t (designed task n cert end)) (one_module text n m takes taken) (record { cert = cert; end = end; design = design; same = refl })
 
-  pub found_said : (r : Status) → Outcome words old new r → (ratio : Ratio) → r ≡ Found ratio → (text : Text) → net_text words old.files ≡ Some text → (m : ModuleTree) → IsLaidOut text m → SaysReport m
-  found_said _ (answered _ _ (no_command none) adds) ratio e text t m h = cc
-  found_said _ (answered _ _ (refused_for net u f named there has is) adds) ratio e text t m h = cc
-  found_said _ (answered _ _ (laid_out net u n g named there has is grid) adds) ratio e text t m h =
-      subst SaysReport (one_module text n m (of_this words old.files text t (λ x. IsLaidOut x n) u has is) h) (g, grid, adds)
-  found_said _ (unsaid _ _ a front) ratio e text t m h = cc
-  found_said _ (unread net named fails) ratio e text t m h = cc
-  found_said _ (no_memory same) ratio e text t m h = cc
+-- ---- a run
 
-  pub layout : (r : Status) → Outcome words old new r → (ratio : Ratio) → r ≡ Found ratio → (text : Text) → net_text words old.files ≡ Some text → (m : ModuleTree) → IsLaidOut text m → (g : FormGrid) → IsGridOf m g → IsLayout (net_of m) (module_of m) (network_of m) ratio (report m g)
-  layout r o ratio e text t m h g grid =
-      let same : Found (layout_of m).ratio ≡ Found ratio = sym (found r o (subst IsSettled (sym e) tt) text t m h) ∙ e in
-      let ratios : (layout_of m).ratio ≡ ratio = cc in
-      subst (λ (x : Ratio). IsLayout (net_of m) (module_of m) (network_of m) x (report m g)) ratios (layout-is text m g h grid)
+module _ (words : List Text) (old new : DeskState) where
+  -- an answer was given, with this status
+  pub record WasGiven (r : Status) : Type 0 where
+    pub answer : Answer
+    pub has : HasAnswer words old.files answer
+    pub same : r ≡ answer.status
+    pub gives : Gives old new answer
 
-  pub write_fault_said : (r : Status) → Outcome words old new r → (which : Which) → r ≡ WriteFault which → (status : Status) × (text : Text) × IsAnswer words old.files status text × SaysFront old new text
-  write_fault_said _ (answered _ _ (no_command none) adds) which e = cc
-  write_fault_said _ (answered _ _ (refused_for net u f named there has is) adds) which e = cc
-  write_fault_said _ (answered _ _ (laid_out net u m k named there has is grid) adds) which e = cc
-  write_fault_said _ (unsaid status text a front) which e = (status, text, a, front)
-  write_fault_said _ (unread net named fails) which e = cc
-  write_fault_said _ (no_memory same) which e = cc
+  was_given : (r : Status) → Outcome words old new r → IsSettled r → WasGiven r
+  was_given _ (given answer has gives) settled = record { answer = answer; has = has; same = refl; gives = gives }
+  was_given _ (ungiven answer which has fails) settled = absurd settled
+  was_given _ (unread task asks fails) settled = absurd settled
+  was_given _ (no_memory same) settled = absurd settled
 
-  pub there : (r : Status) → Outcome words old new r → IsSettled r → (net : Text) → net_word words ≡ Some net → IsThere old.files net
-  there _ (answered _ _ (no_command none) adds) settled net e = let lost : None ≡ Some net = sym none ∙ e in cc
-  there _ (answered _ _ (refused_for net u f named is_there has is) adds) settled other e = subst (λ (x : Text). IsThere old.files x) (let same : Some net ≡ Some other = sym named ∙ e in cc) is_there
-  there _ (answered _ _ (laid_out net u m k named is_there has is grid) adds) settled other e = subst (λ (x : Text). IsThere old.files x) (let same : Some net ≡ Some other = sym named ∙ e in cc) is_there
-  there _ (unsaid _ _ a front) settled net e = absurd settled
-  there _ (unread net named fails) settled other e = absurd settled
-  there _ (no_memory same) settled net e = absurd settled
+  pub answered : (r : Status) → Outcome words old new r → IsSettled r → (answer : Answer) × HasAnswer words old.files answer × (r ≡ answer.status) × Gives old new answer
+  answered r o settled = let was = was_given r o settled in (was.answer, was.has, was.same, was.gives)
 
-  pub read_fault : (r : Status) → Outcome words old new r → (which : Which) → r ≡ ReadFault which → (which ≡ NetFile) × IsSome (net_word words) × FailsToLoad old new
-  read_fault _ (answered _ _ (no_command none) says) which e = cc
-  read_fault _ (answered _ _ (refused_for net u f named there has is) says) which e = cc
-  read_fault _ (answered _ _ (laid_out net u m k named there has is grid) says) which e = cc
-  read_fault _ (unsaid status text a front) which e = cc
-  read_fault _ (unread net named fails) which e =
-      let same : ReadFault NetFile ≡ ReadFault which = e in
-      ((let is : NetFile ≡ which = cc in sym is), subst (λ (x : Option Text). IsSome x) (sym named) refl, fails)
-  read_fault _ (no_memory same) which e = cc
+  -- what some files give, those that are told give
+  told_gives : (answer : Answer) (files : Files) → HasAnswer words old.files answer → old.files ≡ Some files → IsAnswer words files answer
+  told_gives answer files has e =
+      let same : files ≡ has.files = subst (λ (told : Option Files). AreTold told has.files) e has.are_told in
+      subst (λ (f : Files). IsAnswer words f answer) (sym same) has.is
 
-  pub write_fault : (r : Status) → Outcome words old new r → (which : Which) → r ≡ WriteFault which → (which ≡ Output) × Rose old.faults.say new.faults.say
-  write_fault _ (answered _ _ (no_command none) says) which e = cc
-  write_fault _ (answered _ _ (refused_for net u f named there has is) says) which e = cc
-  write_fault _ (answered _ _ (laid_out net u m k named there has is grid) says) which e = cc
-  write_fault _ (unsaid status text a front) which e =
-      let same : WriteFault Output ≡ WriteFault which = e in
-      ((let is : Output ≡ which = cc in sym is), front.rose)
-  write_fault _ (unread net named fails) which e = cc
-  write_fault _ (no_memory same) which e = cc
+  pub exact : (r : Status) → Outcome words old new r → IsSettled r → (files : Files) → old.files ≡ Some files → (answer : Answer) → IsAnswer words files answer → (r ≡ answer.status) × Gives old new answer
+  exact r o settled files e answer is =
+      let was = was_given r o settled in
+      let one : was.answer ≡ answer = one_answer words files was.answer answer (told_gives was.answer files was.has e) is in
+      (was.same ∙ ap (λ (a : Answer). a.status) one, subst (λ (a : Answer). Gives old new a) one was.gives)
 
-  pub no_memory_stays : (r : Status) → Outcome words old new r → r ≡ NoMemory → new ≡ old
-  no_memory_stays _ (answered _ _ (no_command none) says) e = cc
-  no_memory_stays _ (answered _ _ (refused_for net u f named there has is) says) e = cc
-  no_memory_stays _ (answered _ _ (laid_out net u m k named there has is grid) says) e = cc
-  no_memory_stays _ (unsaid status text a front) e = cc
-  no_memory_stays _ (unread net named fails) e = cc
-  no_memory_stays _ (no_memory same) e = same
+  -- ---- words
+
+  words_of : (files : Files) (a : Answer) (fault : WordFault) → IsAnswer words files a → a.status ≡ Words fault → first_fault words ≡ Some fault
+  words_of files _ fault (misused f is) e =
+      let both : Words f ≡ Words fault = e in
+      let same : f ≡ fault = cc in
+      is ∙ ap Some same
+  words_of files _ fault (answers task text a asks there to) e = absurd (no_words task text a fault to e)
+
+  words_give : (files : Files) (a : Answer) (fault : WordFault) → IsAnswer words files a → first_fault words ≡ Some fault → a.status ≡ Words fault
+  words_give files _ fault (misused f is) e =
+      let both : Some f ≡ Some fault = sym is ∙ e in
+      let same : f ≡ fault = cc in
+      ap Words same
+  words_give files _ fault (answers task text a asks there to) e = let lost : None ≡ Some fault = sym asks.no_fault ∙ e in absurd (cc)
+
+  pub words_only : (r : Status) → Outcome words old new r → (fault : WordFault) → r ≡ Words fault → first_fault words ≡ Some fault
+  words_only r o fault e =
+      let was = was_given r o (subst IsSettled (sym e) tt) in
+      words_of was.has.files was.answer fault was.has.is (sym was.same ∙ e)
+
+  pub words_all : (r : Status) → Outcome words old new r → IsSettled r → (fault : WordFault) → first_fault words ≡ Some fault → r ≡ Words fault
+  words_all r o settled fault e =
+      let was = was_given r o settled in
+      was.same ∙ words_give was.has.files was.answer fault was.has.is e
+
+  -- ---- refusals
+
+  -- a refusal writes no file
+  said_refusal : (s : Status) (fault : Text) → Gives old new (refusal s fault) → Says old new (refusal_text fault)
+  said_refusal s fault gives = subst (λ (d : DeskState). Says d new (refusal_text fault)) gives.file gives.said
+
+  said_to_words : (files : Files) (a : Answer) (fault : WordFault) → IsAnswer words files a → a.status ≡ Words fault → Gives old new a → Says old new (refusal_text (word_fault_text fault))
+  said_to_words files _ fault (misused f is) e gives =
+      let both : Words f ≡ Words fault = e in
+      let same : f ≡ fault = cc in
+      subst (λ (x : WordFault). Says old new (refusal_text (word_fault_text x))) same (said_refusal (Words f) (word_fault_text f) gives)
+  said_to_words files _ fault (answers task text a asks there to) e gives = absurd (no_words task text a fault to e)
+
+  said_to_text : (task : Task) (text : Text) (a : Answer) (fault : InputFault) → IsAnswerTo task text a → a.status ≡ Refused fault → Gives old new a → Says old new (refusal_text (input_fault_text fault))
+  said_to_text task text _ fault (refused_for f is) e gives =
+      let both : Refused f ≡ Refused fault = e in
+      let same : f ≡ fault = cc in
+      subst (λ (x : InputFault). Says old new (refusal_text (input_fault_text x))) same (said_refusal (Refused f) (input_fault_text f) gives)
+  said_to_text task text _ fault (searched_so m cert end taken design) e gives = absurd (subst IsSearched e (status_searched end))
+
+  said_of_text : (files : Files) (a : Answer) (fault : InputFault) → IsAnswer words files a → a.status ≡ Refused fault → Gives old new a → Says old new (refusal_text (input_fault_text fault))
+  said_of_text files _ fault (misused f is) e gives = let lost : Words f ≡ Refused fault = e in absurd (cc)
+  said_of_text files _ fault (answers task text a asks there to) e gives = said_to_text task text a fault to e gives
+
+  pub words_said : (r : Status) → Outcome words old new r → (fault : WordFault) → r ≡ Words fault → Says old new (refusal_text (word_fault_text fault))
+  words_said r o fault e =
+      let was = was_given r o (subst IsSettled (sym e) tt) in
+      said_to_words was.has.files was.answer fault was.has.is (sym was.same ∙ e) was.gives
+
+  pub refused_said : (r : Status) → Outcome words old new r → (fault : InputFault) → r ≡ Refused fault → Says old new (refusal_text (input_fault_text fault))
+  refused_said r o fault e =
+      let was = was_given r o (subst IsSettled (sym e) tt) in
+      said_of_text was.has.files was.answer fault was.has.is (sym was.same ∙ e) was.gives
+
+  -- ---- a file of which the desk tells the text
+
+  module _ (task : Task) (text : Text) (told : IsToldText words old.files task text) where
+    to_told : (a : Answer) → HasAnswer words old.files a → IsAnswerTo task text a
+    to_told a has = to_text words told.files a task text (told_gives a told.files has told.told_are) told.is_task told.is_text
+
+    pub refused_only : (r : Status) → Outcome words old new r → (fault : InputFault) → r ≡ Refused fault → IsRefused text fault
+    refused_only r o fault e =
+        let was = was_given r o (subst IsSettled (sym e) tt) in
+        refused_of task text was.answer fault (to_told was.answer was.has) (sym was.same ∙ e)
+
+    pub refused : (r : Status) → Outcome words old new r → IsSettled r → (fault : InputFault) → IsRefused text fault → r ≡ Refused fault
+    refused r o settled fault h =
+        let was = was_given r o settled in
+        was.same ∙ refused_gives task text was.answer fault (to_told was.answer was.has) h
+
+    -- the design that was answered
+    pub record WasDesigned (m : ModuleTree) (r : Status) : Type 0 where
+      pub cert : Certificate
+      pub end : Ending
+      pub design : IsDesign (network_of m) all_forms task.limits task.budget cert end
+      pub same : r ≡ status_of end
+      pub has_given : HasGiven old new task (cert_text cert) (ending_text (net_of m) (network_of m) end)
+
+    it_has_given : (m : ModuleTree) (cert : Certificate) (end : Ending) → Gives old new (designed task m cert end) → HasGiven old new task (cert_text cert) (ending_text (net_of m) (network_of m) end)
+    it_has_given m cert end gives = record {
+      file = ap (λ (d : DeskState). file_at d.files task.cert) gives.said ∙ file_there old gives.written (record { name = task.cert; text = cert_text cert }) gives.file told.files told.told_are;
+      says = said_on old new (designed task m cert end) gives;
+    }
+
+    was_designed : (r : Status) → Outcome words old new r → IsSettled r → (m : ModuleTree) → IsTaken text m → WasDesigned m r
+    was_designed r o settled m taken =
+        let was = was_given r o settled in
+        let is = designed_of task text was.answer m (to_told was.answer was.has) taken in
+        record {
+          cert = is.cert;
+          end = is.end;
+          design = is.design;
+          same = was.same ∙ ap (λ (a : Answer). a.status) is.same;
+          has_given = it_has_given m is.cert is.end (subst (λ (a : Answer). Gives old new a) is.same was.gives);
+        }
+
+    pub searched_only : (r : Status) → Outcome words old new r → IsSearched r → (m : ModuleTree) × IsTaken text m × ((cert : Certificate) × (end : Ending) × IsDesign (network_of m) all_forms task.limits task.budget cert end × (r ≡ status_of end))
+    searched_only r o searched =
+        let was = was_given r o (settled r searched) in
+        let is = searched_of task text was.answer (to_told was.answer was.has) (subst IsSearched was.same searched) in
+        (is.0, is.1, (is.2.cert, is.2.end, is.2.design, was.same ∙ ap (λ (a : Answer). a.status) is.2.same))
+      where
+        settled : (s : Status) → IsSearched s → IsSettled s
+        settled (Found ratio) h = tt
+        settled (Refused fault) h = tt
+        settled (Undecided ratio spent) h = tt
+        settled NoneWithin h = tt
+        settled (ReadFault which) h = h
+        settled (WriteFault which) h = h
+        settled NoMemory h = h
+        settled (Words fault) h = tt
+
+    pub taken_designed : (r : Status) → Outcome words old new r → IsSettled r → (m : ModuleTree) → IsTaken text m → (cert : Certificate) × (end : Ending) × IsDesign (network_of m) all_forms task.limits task.budget cert end × (r ≡ status_of end)
+    taken_designed r o settled m taken = let was = was_designed r o settled m taken in (was.cert, was.end, was.design, was.same)
+
+    pub searched : (r : Status) → Outcome words old new r → IsSettled r → (m : ModuleTree) → IsTaken text m → (cert : Certificate) (end : Ending) → IsDesign (network_of m) all_forms task.limits task.budget cert end → r ≡ status_of end
+    searched r o settled m taken cert end design =
+        (exact r o settled told.files told.told_are (designed task m cert end)
+        (answers task text (designed task m cert end) told.is_task told.is_text (searched_so m cert end taken design))).0
+
+    module _ (m : ModuleTree) (taken : IsTaken text m) where
+      abbrev Worth : (Text → Text → Type 0) → Type 0
+      Worth Is = (bytes : Text) × (said : Text) × Is bytes said × HasGiven old new task bytes said
+
+      pub found : (r : Status) → Outcome words old new r → (ratio : Ratio) → r ≡ Found ratio → Worth (IsFound task m ratio)
+      found r o ratio e =
+          let was = was_designed r o (subst IsSettled (sym e) tt) m taken in
+          by was.cert was.end was.design was.has_given (sym was.same ∙ e)
+        where
+          by : (cert : Certificate) (end : Ending) → IsDesign (network_of m) all_forms task.limits task.budget cert end → HasGiven old new task (cert_text cert) (ending_text (net_of m) (network_of m) end) → status_of end ≡ Found ratio → Worth (IsFound task m ratio)
+          by cert (FoundIn L g) design has same =
+              let one : Found L.ratio ≡ Found ratio = same in
+              let ratios : L.ratio ≡ ratio = cc in
+              (cert_text cert, ending_text (net_of m) (network_of m) (FoundIn L g), subst (λ (x : Ratio). IsFound task m x (cert_text cert) (ending_text (net_of m) (network_of m) (FoundIn L g))) ratios (found-is words task told.is_task text m taken cert L g design), has)
+          by cert (UndecidedAt q spent) design has same = let lost : Undecided q spent ≡ Found ratio = same in absurd (cc)
+          by cert NoneIn design has same = let lost : NoneWithin ≡ Found ratio = same in absurd (cc)
+
+      pub undecided : (r : Status) → Outcome words old new r → (ratio : Ratio) (spent : ℕ) → r ≡ Undecided ratio spent → Worth (IsLeftUndecided task m ratio spent)
+      undecided r o ratio spent e =
+          let was = was_designed r o (subst IsSettled (sym e) tt) m taken in
+          by was.cert was.end was.design was.has_given (sym was.same ∙ e)
+        where
+          by : (cert : Certificate) (end : Ending) → IsDesign (network_of m) all_forms task.limits task.budget cert end → HasGiven old new task (cert_text cert) (ending_text (net_of m) (network_of m) end) → status_of end ≡ Undecided ratio spent → Worth (IsLeftUndecided task m ratio spent)
+          by cert (UndecidedAt q more) design has same =
+              let one : Undecided q more ≡ Undecided ratio spent = same in
+              let ratios : q ≡ ratio = cc in
+              let spents : more ≡ spent = cc in
+              let said : Text = ending_text (net_of m) (network_of m) (UndecidedAt q more) in
+              (cert_text cert, said, subst (λ (x : ℕ). IsLeftUndecided task m ratio x (cert_text cert) said) spents (subst (λ (x : Ratio). IsLeftUndecided task m x more (cert_text cert) said) ratios (undecided-is words task told.is_task text m taken cert q more design)), has)
+          by cert (FoundIn L g) design has same = let lost : Found L.ratio ≡ Undecided ratio spent = same in absurd (cc)
+          by cert NoneIn design has same = let lost : NoneWithin ≡ Undecided ratio spent = same in absurd (cc)
+
+      pub none_within : (r : Status) → Outcome words old new r → r ≡ NoneWithin → Worth (IsNoneWithin task m)
+      none_within r o e =
+          let was = was_designed r o (subst IsSettled (sym e) tt) m taken in
+          by was.cert was.end was.design was.has_given (sym was.same ∙ e)
+        where
+          by : (cert : Certificate) (end : Ending) → IsDesign (network_of m) all_forms task.limits task.budget cert end → HasGiven old new task (cert_text cert) (ending_text (net_of m) (network_of m) end) → status_of end ≡ NoneWithin → Worth (IsNoneWithin task m)
+          by cert NoneIn design has same = (cert_text cert, ending_text (net_of m) (network_of m) NoneIn, none-is words task told.is_task text m taken cert design, has)
+          by cert (FoundIn L g) design has same = let lost : Found L.ratio ≡ NoneWithin = same in absurd (cc)
+          by cert (UndecidedAt q spent) design has same = let lost : Undecided q spent ≡ NoneWithin = same in absurd (cc)
+
+  -- ---- the file is there
+
+  is_there : (told : Option Files) (files : Files) (net text : Text) → AreTold told files → files net ≡ Some text → IsThere told net
+  is_there None files net text same is = tt
+  is_there (Some t) files net text same is = subst (λ (o : Option Text). IsSome o) (sym (ap (λ (f : Files). f net) same ∙ is)) refl
+
+  pub there : (r : Status) → Outcome words old new r → IsSettled r → (task : Task) → IsTask words task → IsThere old.files task.net
+  there r o settled task asks =
+      let was = was_given r o settled in
+      by was.has.files was.answer was.has.are_told was.has.is
+    where
+      by : (files : Files) (a : Answer) → AreTold old.files files → IsAnswer words files a → IsThere old.files task.net
+      by files _ told (misused f is) = let lost : Some f ≡ None = sym is ∙ asks.no_fault in absurd (cc)
+      by files _ told (answers other text a are has to) =
+          is_there old.files files task.net text told (subst (λ (t : Task). files t.net ≡ Some text) (one_task words other task are asks) has)
+
+  -- ---- faults, and what stays
+
+  -- an answer has no status that isn't settled
+  unsettled : (a : Answer) (s : Status) → HasAnswer words old.files a → a.status ≡ s → IsSettled s
+  unsettled a s has e = subst IsSettled e (settled_answer words has.files a has.is)
 
   pub settled_no_fault : (r : Status) → Outcome words old new r → IsSettled r → new.faults ≡ old.faults
-  settled_no_fault _ (answered _ _ is says) settled = ap (λ (d : DeskState). d.faults) says
-  settled_no_fault _ (unsaid _ _ a front) settled = absurd settled
-  settled_no_fault _ (unread net named fails) settled = absurd settled
-  settled_no_fault _ (no_memory same) settled = absurd settled
+  settled_no_fault r o settled = let was = was_given r o settled in given_no_fault old new was.answer was.gives
 
-  pub files_stay : (r : Status) → Outcome words old new r → new.files ≡ old.files
-  files_stay _ (answered _ _ is says) = ap (λ (d : DeskState). d.files) says
-  files_stay _ (unsaid _ _ a front) = ap (λ (d : DeskState). d.files) front.kept
-  files_stay _ (unread net named fails) = ap (λ (d : DeskState). d.files) fails.kept
-  files_stay _ (no_memory same) = ap (λ (d : DeskState). d.files) same
+  pub read_fault : (r : Status) → Outcome words old new r → (which : Which) → r ≡ ReadFault which → (which ≡ NetFile) × ((task : Task) × IsTask words task) × FailsToLoad old new
+  read_fault _ (given answer has gives) which e = absurd (unsettled answer (ReadFault which) has e)
+  read_fault _ (ungiven answer other has fails) which e = let lost : WriteFault other ≡ ReadFault which = e in absurd (cc)
+  read_fault _ (unread task asks fails) which e =
+      let same : ReadFault NetFile ≡ ReadFault which = e in
+      let is : NetFile ≡ which = cc in
+      (sym is, (task, asks), fails)
+  read_fault _ (no_memory same) which e = let lost : NoMemory ≡ ReadFault which = e in absurd (cc)
 
-  pub started_stays : (r : Status) → Outcome words old new r → new.started ≡ old.started
-  started_stays _ (answered _ _ is says) = ap (λ (d : DeskState). d.started) says
-  started_stays _ (unsaid _ _ a front) = ap (λ (d : DeskState). d.started) front.kept
-  started_stays _ (unread net named fails) = ap (λ (d : DeskState). d.started) fails.kept
-  started_stays _ (no_memory same) = ap (λ (d : DeskState). d.started) same
+  pub write_fault : (r : Status) → Outcome words old new r → (which : Which) → r ≡ WriteFault which → (answer : Answer) × HasAnswer words old.files answer × FailsToGive old new answer which
+  write_fault _ (given answer has gives) which e = absurd (unsettled answer (WriteFault which) has e)
+  write_fault _ (ungiven answer other has fails) which e =
+      let same : WriteFault other ≡ WriteFault which = e in
+      let is : other ≡ which = cc in
+      (answer, has, subst (λ (w : Which). FailsToGive old new answer w) is fails)
+  write_fault _ (unread task asks fails) which e = let lost : ReadFault NetFile ≡ WriteFault which = e in absurd (cc)
+  write_fault _ (no_memory same) which e = let lost : NoMemory ≡ WriteFault which = e in absurd (cc)
 
-  none_fell_same : new.faults ≡ old.faults → NoneFell old.faults new.faults
-  none_fell_same same = subst (λ (c : Counts). NoneFell old.faults c) (sym same) (record { load = omega arith; write = omega arith; say = omega arith })
+  pub faults_rose : (r : Status) → Outcome words old new r → (which : Which) → (r ≡ ReadFault which) ⊎ (r ≡ WriteFault which) → RoseAt which old.faults new.faults
+  faults_rose r o which (inl e) =
+      let is = read_fault r o which e in
+      subst (λ (w : Which). RoseAt w old.faults new.faults) (sym is.0) is.2.rose
+  faults_rose r o which (inr e) = let is = write_fault r o which e in rose_ungiven old new is.0 which is.2
+
+  pub complete : (r : Status) → Outcome words old new r → ((which : Which) → RoseAt which old.faults new.faults → ⊥) → (r ≡ NoMemory) ⊎ IsSettled r
+  complete _ (given answer has gives) none = inr (settled_answer words has.files answer has.is)
+  complete _ (ungiven answer which has fails) none = absurd (none which (rose_ungiven old new answer which fails))
+  complete _ (unread task asks fails) none = absurd (none NetFile fails.rose)
+  complete _ (no_memory same) none = inl refl
+
+  pub no_memory_stays : (r : Status) → Outcome words old new r → r ≡ NoMemory → new ≡ old
+  no_memory_stays _ (given answer has gives) e = absurd (unsettled answer NoMemory has e)
+  no_memory_stays _ (ungiven answer which has fails) e = let lost : WriteFault which ≡ NoMemory = e in absurd (cc)
+  no_memory_stays _ (unread task asks fails) e = let lost : ReadFault NetFile ≡ NoMemory = e in absurd (cc)
+  no_memory_stays _ (no_memory same) e = same
 
   pub none_fell : (r : Status) → Outcome words old new r → NoneFell old.faults new.faults
-  none_fell _ (answered _ _ is says) = none_fell_same (ap (λ (d : DeskState). d.faults) says)
-  none_fell _ (unsaid _ _ a front) = record {
-    load = let same : new.faults.load ≡ old.faults.load = ap (λ (d : DeskState). d.faults.load) front.kept in omega arith;
-    write = let same : new.faults.write ≡ old.faults.write = ap (λ (d : DeskState). d.faults.write) front.kept in omega arith;
-    say = front.no_fall;
-  }
-  none_fell _ (unread net named fails) = record {
-    load = fails.no_fall;
-    write = let same : new.faults.write ≡ old.faults.write = ap (λ (d : DeskState). d.faults.write) fails.kept in omega arith;
-    say = let same : new.faults.say ≡ old.faults.say = ap (λ (d : DeskState). d.faults.say) fails.kept in omega arith;
-  }
-  none_fell _ (no_memory same) = none_fell_same (ap (λ (d : DeskState). d.faults) same)
+  none_fell _ (given answer has gives) = none_fell_same old.faults new.faults (given_no_fault old new answer gives)
+  none_fell _ (ungiven answer which has fails) = none_fell_ungiven old new answer which fails
+  none_fell _ (unread task asks fails) = none_fell_load old new fails
+  none_fell _ (no_memory same) = none_fell_same old.faults new.faults (ap (λ (d : DeskState). d.faults) same)
+
+  -- the only file of an answer is the task's
+  differ : (name : Text) → ((task : Task) → IsTask words task → task.cert ≢ name) → (a : Answer) → HasAnswer words old.files a → (file : Written) → a.file ≡ Some file → file.name ≢ name
+  differ name apart a has file e same = let owner = file_of words has.files a file has.is e in apart owner.0 owner.1 (owner.2 ∙ same)
+
+  pub others_stay : (r : Status) → Outcome words old new r → (name : Text) → ((task : Task) → IsTask words task → task.cert ≢ name) → file_at new.files name ≡ file_at old.files name
+  others_stay _ (given answer has gives) name apart = given_others old new answer name (λ file e same. differ name apart answer has file e same) gives
+  others_stay _ (ungiven answer which has fails) name apart = ungiven_others old new answer name (λ file e same. differ name apart answer has file e same) which fails
+  others_stay _ (unread task asks fails) name apart = ap (λ (d : DeskState). file_at d.files name) fails.kept
+  others_stay _ (no_memory same) name apart = ap (λ (d : DeskState). file_at d.files name) same

@@ -1,8 +1,7 @@
--- Why no layout is made of a text, from the fault of a lower reader.
+-- From a text to its network, or to why there is none, from the fault of a lower reader.
 use Rattle.std.proofs.Common.{◌≡◌, ◌≤◌, length, Option, Result, Ok, Err, ap, ◌∙◌, sym, subst}
 use Rattle.std.specs.Prelude.{◌≢◌, IfErr}
 use Rattle.std.specs.Result.{IsErrAnd}
-use Rattle.std.proofs.lemmas.List.FromFn.{length-range_with_len}
 use Rattle.bx_logic.specs.Nets.{Netlist}
 use Rattle.bx_desk.specs.Desk.{Files}
 use Rattle.bx_lex.specs.Tokens.{TokenList, HasTokens}
@@ -14,23 +13,17 @@ use Rattle.bx_verilog.specs.declared.fault.NetFault.{NetFault}
 use Rattle.bx_verilog.specs.declared.fault.NetFault.TheVariants.{BadPort, NoOutput, TwoDrivers, NoDriver, Cycle, NoMemory as NetNoMemory}
 use Rattle.bx_verilog.specs.Formulas.{Text}
 use Rattle.bx_verilog.specs.Faults.{IsFault}
-use Rattle.bx_verilog.specs.Elaboration.{net_of}
 use Rattle.bx_network.specs.Networks.{Network}
 use Rattle.bx_map.specs.Maps.{mapped}
-use Rattle.bx_layout.specs.declared.layout.Layout.{Layout}
-use Rattle.bx_layout.specs.Grids.{FormGrid}
-use Rattle.bx_layout.specs.TileForms.{IsFormGridOf}
-use Rattle.bx_engine.specs.declared.design.NoDesign.{NoDesign}
-use Rattle.bx_engine.specs.declared.design.NoDesign.TheVariants.{Fault, Unread, NoMemory as NoRoom}
+use Rattle.bx_engine.specs.declared.load.NoModule.{NoModule}
+use Rattle.bx_engine.specs.declared.load.NoModule.TheVariants.{Fault, Unread, NoMemory as NoRoom}
 use Rattle.bx_engine.specs.declared.limits.TheConstants.{MOST_NODES}
-use Rattle.bx_engine.specs.declared.status.InputFault.TheVariants.{TooLong, Lex, Read, Net, Constant, Nodes, NotBuilt}
-use Rattle.bx_engine.specs.Chains.{IsChain}
-use Rattle.bx_engine.specs.Columns.{column}
-use Rattle.bx_engine.specs.Answers.{IsShort, IsText, IsMapped, IsConstant, HasManyNodes, IsRefused, network_of}
-use Rattle.bx_engine.specs.Outcomes.{read_end, net_end, HasNet, HasNetwork, HasLayout, ReadsLayout, NetEnds, TextEnds}
+use Rattle.bx_engine.specs.declared.status.InputFault.TheVariants.{TooLong, Lex, Read, Net, Constant, Nodes}
+use Rattle.bx_engine.specs.Outcomes.{read_end, net_end, HasNet, HasNetwork, HasModule, ReadsModule, NetEnds, TextEnds}
+use Rattle.bx_engine.specs.Texts.{IsShort, IsText, IsMapped, IsConstant, HasManyNodes}
 
 -- an error that is the end of this fault
-pub ends_so : {T : Type 0} (text : Text) (r : Result T NoDesign) (end : NoDesign) → IsErrAnd r (λ e. e ≡ end) → TextEnds text end → IfErr r (TextEnds text)
+pub ends_so : {T : Type 0} (text : Text) (r : Result T NoModule) (end : NoModule) → IsErrAnd r (λ e. e ≡ end) → TextEnds text end → IfErr r (TextEnds text)
 ends_so text (Ok v) end h t = tt
 ends_so text (Err e) end h t = subst (TextEnds text) (sym h) t
 
@@ -50,45 +43,28 @@ module _ (text : Text) (short : IsShort text) where
   net_ends m NetNoMemory is first = tt
 
 -- a net of the text that is not mapped
-pub refused-net : (text : Text) (net : Netlist) (end : NoDesign) → HasNet text net → NetEnds net end → TextEnds text end
+pub refused-net : (text : Text) (net : Netlist) (end : NoModule) → HasNet text net → NetEnds net end → TextEnds text end
 refused-net text net (Fault (Constant name)) has is = (has.tree, has.good, subst (λ (n : Netlist). IsConstant n name) has.same is)
 refused-net text net (Fault (Nodes count)) has is = (has.tree, has.good, subst (λ (n : Netlist). HasManyNodes n count) has.same is)
 refused-net text net (Fault (TooLong which)) has is = absurd is
 refused-net text net (Fault (Lex fault)) has is = absurd is
 refused-net text net (Fault (Read fault)) has is = absurd is
 refused-net text net (Fault (Net fault)) has is = absurd is
-refused-net text net (Fault NotBuilt) has is = absurd is
 refused-net text net Unread has is = is
 refused-net text net NoRoom has is = tt
 
-module _ (text : Text) (net : Netlist) (N : Network) (has : HasNet text net) (maps : HasNetwork net N) where
-  is-mapped : IsMapped (net_of has.tree)
-  is-mapped = subst IsMapped has.same maps.is_mapped
+-- a text with a net that is mapped
+pub has-module : (text : Text) (net : Netlist) (N : Network) → HasNet text net → HasNetwork net N → HasModule text net N
+has-module text net N has maps = record {
+  tree = has.tree;
+  taken = record { good = has.good; is_mapped = subst IsMapped has.same maps.is_mapped };
+  same = has.same;
+  network = maps.network ∙ ap mapped has.same;
+}
 
-  is-network : N ≡ network_of has.tree
-  is-network = maps.network ∙ ap mapped has.same
-
-  -- a net of the text whose network is no chain
-  pub not-built : (IsChain N → ⊥) → IsRefused text NotBuilt
-  not-built none = (has.tree, has.good, record { is_mapped = is-mapped; no_chain = λ c. none (subst IsChain (sym is-network) c) })
-
-  -- and one that is laid out
-  pub laid-out : (L : Layout) (g : FormGrid) → IsChain N → L ≡ column N → IsFormGridOf N L g → HasLayout text net N L g
-  laid-out L g chain is forms = record {
-    tree = has.tree;
-    laid_out = record { good = has.good; is_mapped = is-mapped; chain = subst IsChain is-network chain };
-    same = has.same;
-    network = is-network;
-    layout = is ∙ ap column is-network;
-    grid = subst (λ (M : Network). IsFormGridOf M (column M) g) is-network (subst (λ (l : Layout). IsFormGridOf N l g) is forms);
-  }
-
-  -- the network is small, and a network
-  pub small : length N.nodes ≤ MOST_NODES
-  small = let few = maps.is_mapped.few in subst (λ (M : Network). length M.nodes ≤ MOST_NODES) (sym maps.network) few
-
--- each node has a place
-pub places-all : (told : Option Files) (name : Text) (net : Netlist) (N : Network) (L : Layout) (g : FormGrid) → ReadsLayout told name net N L g → length L.places ≡ length N.nodes
-places-all told name net N L g reads =
-    let it = reads.has_layout in
-    ap (λ (l : Layout). length l.places) it.layout ∙ length-range_with_len 0 (length (network_of it.tree).nodes) ∙ ap (λ (M : Network). length M.nodes) (sym it.network)
+-- the network is small
+pub small : (told : Option Files) (name : Text) (net : Netlist) (N : Network) → ReadsModule told name net N → length N.nodes ≤ MOST_NODES
+small told name net N reads =
+    let it = reads.has_module in
+    let few = it.taken.is_mapped.few in
+    subst (λ (M : Network). length M.nodes ≤ MOST_NODES) (sym it.network) few

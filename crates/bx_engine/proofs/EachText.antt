@@ -1,11 +1,9 @@
--- Each text is refused for some fault, or laid out in some way.
-use Rattle.std.proofs.Common.{◌≡◌, ℕ, ◌+◌, ◌⊎◌, inl, inr, [], Option, Some, None, length, Result, Ok, Err, refl}
+-- Each text is refused for some fault, or taken.
+use Rattle.std.proofs.Common.{◌≡◌, ℕ, ◌⊎◌, inl, inr, [], Option, Some, None, length, Result, Ok, Err, refl}
 use Rattle.std.specs.Prelude.{slice_index_or}
-use Rattle.std.proofs.lemmas.Bool.{cases_lt, cases_eq}
+use Rattle.std.proofs.lemmas.Bool.{cases_lt}
 use Rattle.bx_logic.specs.Nets.{Netlist, output_names}
-use Rattle.bx_network.specs.Networks.{Network, is_output}
-use Rattle.bx_layout.specs.Valuations.{is_input}
-use Rattle.bx_map.specs.Maps.{first_constant, mapped, node_count}
+use Rattle.bx_map.specs.Maps.{first_constant, node_count}
 use Rattle.bx_lex.specs.declared.token.LexFault.{LexFault}
 use Rattle.bx_lex.specs.Tokens.{TokenList, HasTokens, Reads}
 use Rattle.bx_lex.proofs.Readings.{some_reading}
@@ -20,39 +18,20 @@ use Rattle.bx_verilog.specs.Formulas.{Text}
 use Rattle.bx_verilog.specs.Elaboration.{net_of, Elaborates}
 use Rattle.bx_verilog.proofs.Existence.{meaning}
 use Rattle.bx_engine.specs.declared.status.InputFault.{InputFault}
-use Rattle.bx_engine.specs.declared.status.InputFault.TheVariants.{TooLong, Lex, Read, Net, Constant, Nodes, NotBuilt}
+use Rattle.bx_engine.specs.declared.status.InputFault.TheVariants.{TooLong, Lex, Read, Net, Constant, Nodes}
 use Rattle.bx_engine.specs.declared.status.Which.TheVariants.{NetFile}
-use Rattle.bx_engine.specs.Chains.{IsChain, is_not, count_of}
-use Rattle.bx_engine.specs.Answers.{IsShort, IsText, IsGood, IsRefused, IsLaidOut}
-
--- Whether a network is a chain.
-chain-or-not : (N : Network) → IsChain N ⊎ (IsChain N → ⊥)
-chain-or-not N = elim (cases_eq (count_of is_input N.nodes) 1) [
-  | inr unlike ↦ inr (λ c. unlike c.one_input)
-  | inl inputs ↦ elim (cases_eq (count_of is_output N.nodes) 1) [
-    | inr unlike ↦ inr (λ c. unlike c.one_output)
-    | inl outputs ↦ elim (cases_eq (count_of is_not N.nodes + 2) (length N.nodes)) [
-      | inr unlike ↦ inr (λ c. unlike c.others_invert)
-      | inl others ↦ inl (record { one_input = inputs; one_output = outputs; others_invert = others })
-    ]
-  ]
-]
-
--- What becomes of a text.
+use Rattle.bx_engine.specs.Texts.{IsShort, IsText, IsGood, IsRefused, IsTaken}
 
 module _ (text : Text) where
   abbrev HasAnswer : Type 0
-  HasAnswer = ((fault : InputFault) × IsRefused text fault) ⊎ ((m : ModuleTree) × IsLaidOut text m)
+  HasAnswer = ((fault : InputFault) × IsRefused text fault) ⊎ ((m : ModuleTree) × IsTaken text m)
 
   module _ (short : IsShort text) where
     -- an accepted module
     by_count : (m : ModuleTree) → IsGood text m → first_constant (net_of m) ≡ None → HasAnswer
     by_count m good none = elim (cases_lt 96 (node_count (net_of m))) [
       | inl many ↦ inl (Nodes (node_count (net_of m)), (m, good, record { no_constant = none; counted = refl; many = many }))
-      | inr few ↦ elim (chain-or-not (mapped (net_of m))) [
-        | inl chain ↦ inr (m, record { good = good; is_mapped = record { no_constant = none; few = few }; chain = chain })
-        | inr unlike ↦ inl (NotBuilt, (m, good, record { is_mapped = record { no_constant = none; few = few }; no_chain = unlike }))
-      ]
+      | inr few ↦ inr (m, record { good = good; is_mapped = record { no_constant = none; few = few } })
     ]
 
     by_constant : (m : ModuleTree) → IsGood text m → (o : Option ℕ) → first_constant (net_of m) ≡ o → HasAnswer

@@ -23,6 +23,11 @@ report_parts net N r places tiles g e f =
     ∙ ap (λ (xs : List ℕ). text_of (head_lines (head_of net N)) ++ (ended (found_line g.ratio) ++ (text_of (port_lines g.ratio (ports_of net N xs)) ++ text_of (row_lines g)))) f
     ∙ report_is (report_of net N places g)
 
+-- lines and one more
+pub last_line : (lines : List Text) (line : Text) → text_of lines ++ ended line ≡ text_of (lines ++ line ∷ [])
+last_line [] line = sym (append-nil (ended line))
+last_line (first ∷ lines) line = append_assoc (ended first) (text_of lines) (ended line) ∙ ap (λ (xs : Text). ended first ++ xs) (last_line lines line)
+
 -- the line of a refusal, word by word
 pub refusal_is : (first : Text) (words : List Word) → codes "refused" ++ ((32 ∷ first) ++ (further_text words ++ 10 ∷ [])) ≡ refusal_text (spaced first (map word_text words))
 unfolding refusal_text

@@ -24,7 +24,7 @@ use Rattle.bx_verilog.specs.Formulas.{Text}
 use Rattle.bx_verilog.specs.Mentions.{is_input, is_output, ports_as, inputs, outputs}
 use Rattle.bx_verilog.specs.declared.role.Role.{Role}
 use Rattle.bx_says.specs.Texts.{IsPlain}
-use Rattle.bx_engine.specs.Answers.{IsText}
+use Rattle.bx_engine.specs.Texts.{IsText}
 use Rattle.bx_logic.proofs.Members.{Member-filter_cases, AllByRecursion-from_member, member_of_AllByRecursion}
 use Rattle.bx_says.proofs.Spellings.{each_map}
 

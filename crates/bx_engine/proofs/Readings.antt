@@ -1,4 +1,4 @@
--- A text is refused for one fault, or laid out in one way, and never both.
+-- A text is refused for one fault, or taken as that of one module, and never both.
 use Rattle.std.specs.Prelude.{⊤, slice_index_or}
 use Rattle.std.proofs.Common.{◌≡◌, ℕ, [], Some, None, Ok, Err, refl, sym, ◌∙◌, ap, subst, arith}
 use Rattle.bx_lex.specs.declared.token.LexFault.{LexFault}
@@ -19,8 +19,8 @@ use Rattle.bx_logic.specs.Nets.{Netlist, output_names}
 use Rattle.bx_map.specs.Maps.{first_constant}
 use Rattle.bx_verilog.proofs.OneMeaning.{one-meaning}
 use Rattle.bx_engine.specs.declared.status.InputFault.{InputFault}
-use Rattle.bx_engine.specs.declared.status.InputFault.TheVariants.{TooLong, Lex, Read, Net, Constant, Nodes, NotBuilt}
-use Rattle.bx_engine.specs.Answers.{IsText, IsUnread, IsGood, IsMapped, IsConstant, HasManyNodes, IsNotBuilt, IsRefused, IsLaidOut}
+use Rattle.bx_engine.specs.declared.status.InputFault.TheVariants.{TooLong, Lex, Read, Net, Constant, Nodes}
+use Rattle.bx_engine.specs.Texts.{IsText, IsUnread, IsGood, IsMapped, IsConstant, HasManyNodes, IsRefused, IsTaken}
 
 module _ (text : Text) where
   one_list : (a b : TokenList) → HasTokens text a → HasTokens text b → a ≡ b
@@ -57,7 +57,6 @@ no_fault m f a b = let lost = one-meaning m (Ok (net_of m)) (Err f) (a, refl) b 
 abbrev IsEarly : InputFault → Type 0
 IsEarly (Constant name) = ⊥
 IsEarly (Nodes count) = ⊥
-IsEarly NotBuilt = ⊥
 IsEarly _ = ⊤
 
 -- what a net is refused for
@@ -88,7 +87,6 @@ module _ (text : Text) where
   no_early m (Net g) good early (s, (n, x, u)) = text_no_fault m n g good.is_text x good.accepted u
   no_early m (Constant name) good early x = early
   no_early m (Nodes count) good early x = early
-  no_early m NotBuilt good early x = early
 
   -- what holds of the net of one module of the text holds of that of another
   of_one : (P : Netlist → Type 0) (m n : ModuleTree) → IsGood text m → IsGood text n → P (net_of m) → P (net_of n)
@@ -113,25 +111,16 @@ module _ (text : Text) where
   refused_once (Net f) (Net g) (s, (m, x, u)) (r, (n, y, z)) = ap Net (text_fault m n f g x y u z)
   refused_once (Constant x) (Constant y) (m, a, p) (n, b, q) = ap Constant (one_constant (net_of n) x y (of_one (λ net. IsConstant net x) m n a b p) q)
   refused_once (Constant x) (Nodes c) (m, a, p) (n, b, q) = absurd (no_constant (net_of n) x (of_one (λ net. IsConstant net x) m n a b p) q.no_constant)
-  refused_once (Constant x) NotBuilt (m, a, p) (n, b, q) = absurd (no_constant (net_of n) x (of_one (λ net. IsConstant net x) m n a b p) q.is_mapped.no_constant)
   refused_once (Nodes c) (Constant y) (m, a, p) (n, b, q) = absurd (no_constant (net_of m) y (of_one (λ net. IsConstant net y) n m b a q) p.no_constant)
   refused_once (Nodes c) (Nodes d) (m, a, p) (n, b, q) = ap Nodes (let e = of_one (λ net. HasManyNodes net c) m n a b p in let f = e.counted in let g = q.counted in omega arith)
-  refused_once (Nodes c) NotBuilt (m, a, p) (n, b, q) = absurd (not_many (net_of n) c (of_one (λ net. HasManyNodes net c) m n a b p) q.is_mapped)
-  refused_once NotBuilt (Constant y) (m, a, p) (n, b, q) = absurd (no_constant (net_of m) y (of_one (λ net. IsConstant net y) n m b a q) p.is_mapped.no_constant)
-  refused_once NotBuilt (Nodes d) (m, a, p) (n, b, q) = absurd (not_many (net_of m) d (of_one (λ net. HasManyNodes net d) n m b a q) p.is_mapped)
-  refused_once NotBuilt NotBuilt x y = refl
   refused_once (TooLong v) (Constant y) x (n, b, q) = absurd (no_early n (TooLong v) b tt x)
   refused_once (TooLong v) (Nodes d) x (n, b, q) = absurd (no_early n (TooLong v) b tt x)
-  refused_once (TooLong v) NotBuilt x (n, b, q) = absurd (no_early n (TooLong v) b tt x)
   refused_once (Lex f) (Constant y) x (n, b, q) = absurd (no_early n (Lex f) b tt x)
   refused_once (Lex f) (Nodes d) x (n, b, q) = absurd (no_early n (Lex f) b tt x)
-  refused_once (Lex f) NotBuilt x (n, b, q) = absurd (no_early n (Lex f) b tt x)
   refused_once (Read f) (Constant y) x (n, b, q) = absurd (no_early n (Read f) b tt x)
   refused_once (Read f) (Nodes d) x (n, b, q) = absurd (no_early n (Read f) b tt x)
-  refused_once (Read f) NotBuilt x (n, b, q) = absurd (no_early n (Read f) b tt x)
   refused_once (Net f) (Constant y) x (n, b, q) = absurd (no_early n (Net f) b tt x)
   refused_once (Net f) (Nodes d) x (n, b, q) = absurd (no_early n (Net f) b tt x)
-  refused_once (Net f) NotBuilt x (n, b, q) = absurd (no_early n (Net f) b tt x)
   refused_once (Constant x) (TooLong w) (m, a, p) y = absurd (no_early m (TooLong w) a tt y)
   refused_once (Constant x) (Lex g) (m, a, p) y = absurd (no_early m (Lex g) a tt y)
   refused_once (Constant x) (Read g) (m, a, p) y = absurd (no_early m (Read g) a tt y)
@@ -140,19 +129,14 @@ module _ (text : Text) where
   refused_once (Nodes c) (Lex g) (m, a, p) y = absurd (no_early m (Lex g) a tt y)
   refused_once (Nodes c) (Read g) (m, a, p) y = absurd (no_early m (Read g) a tt y)
   refused_once (Nodes c) (Net g) (m, a, p) y = absurd (no_early m (Net g) a tt y)
-  refused_once NotBuilt (TooLong w) (m, a, p) y = absurd (no_early m (TooLong w) a tt y)
-  refused_once NotBuilt (Lex g) (m, a, p) y = absurd (no_early m (Lex g) a tt y)
-  refused_once NotBuilt (Read g) (m, a, p) y = absurd (no_early m (Read g) a tt y)
-  refused_once NotBuilt (Net g) (m, a, p) y = absurd (no_early m (Net g) a tt y)
 
-  pub not_both : (m : ModuleTree) (f : InputFault) → IsLaidOut text m → IsRefused text f → ⊥
+  pub not_both : (m : ModuleTree) (f : InputFault) → IsTaken text m → IsRefused text f → ⊥
   not_both m (Constant name) is (n, b, q) = no_constant (net_of m) name (of_one (λ net. IsConstant net name) n m b is.good q) is.is_mapped.no_constant
   not_both m (Nodes count) is (n, b, q) = not_many (net_of m) count (of_one (λ net. HasManyNodes net count) n m b is.good q) is.is_mapped
-  not_both m NotBuilt is (n, b, q) = (of_one IsNotBuilt n m b is.good q).no_chain is.chain
   not_both m (TooLong w) is x = no_early m (TooLong w) is.good tt x
   not_both m (Lex g) is x = no_early m (Lex g) is.good tt x
   not_both m (Read g) is x = no_early m (Read g) is.good tt x
   not_both m (Net g) is x = no_early m (Net g) is.good tt x
 
-  pub one_module : (m n : ModuleTree) → IsLaidOut text m → IsLaidOut text n → m ≡ n
+  pub one_module : (m n : ModuleTree) → IsTaken text m → IsTaken text n → m ≡ n
   one_module m n a b = one_text text m n a.good.is_text b.good.is_text

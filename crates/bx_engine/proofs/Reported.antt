@@ -1,6 +1,10 @@
--- The report of a layout can be told from any other: the names of a module are plain, and its nodes stand on tiles.
+-- The report of a layout that was found can be told from any other: the names of a module are plain, and its nodes
+-- stand on tiles.
 use Rattle.std.proofs.Common.{◌≡◌, ℕ, List, [], ◌∷◌, map, refl, sym, ap, subst}
 use Rattle.std.specs.List.{AllByRecursion}
+use Rattle.bx_cert.specs.Certs.{Certificate}
+use Rattle.bx_design.specs.Designs.{IsDesign}
+use Rattle.bx_design.specs.declared.ending.Ending.TheVariants.{Found}
 use Rattle.bx_logic.specs.Nets.{output_names}
 use Rattle.bx_syntax.specs.Parts.{ModuleTree}
 use Rattle.bx_verilog.specs.Formulas.{Text}
@@ -9,12 +13,15 @@ use Rattle.bx_verilog.specs.Elaboration.{net_of}
 use Rattle.bx_grid.specs.declared.ratio.Ratio.{Ratio}
 use Rattle.bx_grid.specs.Tiles.{IsTile}
 use Rattle.bx_layout.specs.Grids.{FormGrid}
+use Rattle.bx_layout.specs.Permits.{all_forms}
+use Rattle.bx_layout.specs.declared.layout.Layout.{Layout}
 use Rattle.bx_says.specs.Texts.{IsPlain}
-use Rattle.bx_says.specs.Reports.{HasPlainNames, IsReportable}
+use Rattle.bx_says.specs.Reports.{HasPlainNames, IsReportable, report_of}
 use Rattle.bx_says.proofs.Reportable.{reportable as plain-reportable}
-use Rattle.bx_engine.specs.Answers.{IsText, IsLaidOut, IsGridOf, network_of, layout_of, report}
-use Rattle.bx_engine.proofs.Layouts.{network-is, legal-column, whole-grid}
+use Rattle.bx_engine.specs.Tasks.{Task, IsTask}
+use Rattle.bx_engine.specs.Texts.{IsText, IsTaken, network_of}
 use Rattle.bx_engine.proofs.PlainNames.{module_name_plain, inputs_plain, outputs_plain}
+use Rattle.bx_engine.proofs.Worth.{network-is, minimal}
 
 -- the names of the outputs of a module's net are those of the module
 output_names_once : (m : ModuleTree) → output_names (net_of m) ≡ outputs m
@@ -31,9 +38,10 @@ names-plain text m is = record {
   outputs = subst (AllByRecursion IsPlain) (sym (output_names_once m)) (outputs_plain text m is);
 }
 
-pub reportable : (text : Text) (m : ModuleTree) (g : FormGrid) → IsLaidOut text m → IsGridOf m g → IsReportable (report m g)
-reportable text m g laid_out grid =
-    let legal = legal-column text m laid_out in
-    plain-reportable (net_of m) (network_of m) (layout_of m).places g (names-plain text m laid_out.good.is_text)
-    (network-is text m laid_out.good laid_out.is_mapped) (whole-grid m g legal grid)
-    (λ v t at. subst (λ (r : Ratio). IsTile r t) (sym grid.ratio) (legal.placed.inside v t at))
+pub reportable : (words : List Text) (task : Task) → IsTask words task → (text : Text) (m : ModuleTree) → IsTaken text m
+    → (cert : Certificate) (L : Layout) (g : FormGrid) → IsDesign (network_of m) all_forms task.limits task.budget cert (Found L g)
+    → IsReportable (report_of (net_of m) (network_of m) L.places g)
+reportable words task asks text m taken cert L g design =
+    let good = (minimal words task asks text m taken cert (Found L g) design).end_at.1 in
+    plain-reportable (net_of m) (network_of m) L.places g (names-plain text m taken.good.is_text) (network-is text m taken) good.whole
+    (λ v t at. subst (λ (r : Ratio). IsTile r t) (sym good.forms.ratio) (good.legal.placed.inside v t at))

@@ -1,59 +1,108 @@
--- From how a run's steps end to the answer that the words and the file give.
-use Rattle.std.proofs.Common.{◌≡◌, List, Option, Some, None, refl, sym, ◌∙◌, ap, subst}
-use Rattle.std.specs.Prelude.{String, IsSome, option_and_then}
-use Rattle.bx_desk.specs.Desk.{Files, DeskState, IsFile, Says, SaysFront}
+-- From how the steps of a run end to how the run ends.
+use Rattle.std.proofs.Common.{◌≡◌, ℕ, List, Option, Some, None, refl, sym, subst}
+use Rattle.bx_cert.specs.Certs.{Certificate}
+use Rattle.bx_design.specs.Designs.{IsDesign}
+use Rattle.bx_design.specs.Meaning.{IsMinimal}
+use Rattle.bx_design.specs.declared.ending.Ending.{Ending}
+use Rattle.bx_design.specs.declared.ending.Ending.TheVariants.{Found, Undecided, NoneWithin}
+use Rattle.bx_desk.specs.Desk.{Files, DeskState}
+use Rattle.bx_grid.specs.declared.ratio.Limits.{Limits}
+use Rattle.bx_layout.specs.Permits.{PermitTest, all_forms}
 use Rattle.bx_logic.specs.Nets.{Netlist}
-use Rattle.bx_syntax.specs.Parts.{ModuleTree}
+use Rattle.bx_network.specs.Networks.{Network}
+use Rattle.bx_verilog.specs.Elaboration.{net_of}
 use Rattle.bx_verilog.specs.Formulas.{Text}
-use Rattle.bx_grid.specs.declared.ratio.Ratio.{Ratio}
+use Rattle.bx_words.specs.Verbs.{verb_of}
+use Rattle.bx_words.specs.Clap.{rows}
+use Rattle.bx_words.specs.Words.{first_fault, IsCommand, IsCommandOf}
+use Rattle.bx_words.specs.declared.commands.Command.{Command}
+use Rattle.bx_words.specs.declared.commands.Command.TheVariants.{Design as DesignOf}
+use Rattle.bx_words.specs.declared.commands.DesignCommand.{DesignCommand}
+use Rattle.bx_words.specs.declared.faults.WordFault.{WordFault}
+use Rattle.bx_words.specs.declared.verbs.Verb.{Verb}
+use Rattle.bx_words.specs.declared.verbs.Verb.TheVariants.{Design as DesignVerb}
+use Rattle.bx_engine.specs.declared.load.NoModule.{NoModule}
+use Rattle.bx_engine.specs.declared.load.NoModule.TheVariants.{Fault}
 use Rattle.bx_engine.specs.declared.status.InputFault.{InputFault}
 use Rattle.bx_engine.specs.declared.status.Status.{Status}
-use Rattle.bx_engine.specs.declared.status.Status.TheVariants.{Found, Refused}
-use Rattle.bx_network.specs.Networks.{Network}
-use Rattle.bx_layout.specs.declared.layout.Layout.{Layout}
-use Rattle.bx_layout.specs.Grids.{FormGrid}
-use Rattle.bx_says.specs.Reports.{report_of, report_text}
-use Rattle.bx_engine.specs.Said.{refusal_text, input_fault_text}
-use Rattle.bx_engine.specs.Told.{net_word, net_text, HasText, IsThere}
-use Rattle.bx_engine.specs.Answers.{IsRefused, IsAnswer, refused, laid_out, network_of, layout_of, report}
-use Rattle.bx_engine.specs.Outcomes.{EndsSaying, done, failed, ReadsLayout, Outcome, answered, unsaid}
+use Rattle.bx_engine.specs.declared.status.Status.TheVariants.{Refused, Words}
+use Rattle.bx_engine.specs.Answers.{Answer, IsAnswerTo, refused, searched, misused, answered, refusal, designed}
+use Rattle.bx_engine.specs.Outcomes.{HasAnswer, Outcome, given, ungiven, unread, no_memory, EndsSaying, ReadsModule, FileEnds}
+use Rattle.bx_engine.specs.Said.{refusal_text, input_fault_text, word_fault_text}
+use Rattle.bx_engine.specs.Steps.{task_of, design_answer, HasPlaces, HasAnswerTo, EndsGiving, given as was_given, ungiven as was_ungiven, EndsDesign, EndsCommand, answered as task_answered, unread as task_unread, no_memory as task_no_memory}
+use Rattle.bx_engine.specs.Tasks.{Task, IsTask}
+use Rattle.bx_engine.proofs.Endings.{gives_refusal}
 
--- a file of which a text is told is there
-there_is : (net text : Text) (told : Option Files) → IsFile told net text → IsThere told net
-there_is net text None file = tt
-there_is net text (Some files) file = some_is file where
-  some_is : {o : Option Text} {t : Text} → o ≡ Some t → IsSome o
-  some_is e = subst (λ (x : Option Text). IsSome x) (sym e) refl
+-- ---- the task
 
-module _ {A : Type 0} (words : List (String A)) (net : Text) (named : net_word words ≡ Some net) (told : Option Files) where
-  -- what the desk tells to be the file that the words name
-  told_text : net_text words told ≡ option_and_then (λ files. files net) told
-  told_text = ap (option_and_then (λ (n : Text). option_and_then (λ files. files n) told)) named
+-- a command without a fault is a task
+is_task : (words : List Text) (d : DesignCommand) → first_fault words ≡ None → IsCommand words (DesignOf d) → IsTask words (task_of d)
+is_task words d no_fault is = by_verb is.verb is.first is.says where
+  by_verb : (verb : Verb) → verb_of words ≡ Some verb → IsCommandOf verb (rows verb words) (DesignOf d) → IsTask words (task_of d)
+  by_verb DesignVerb first says = record { no_fault = no_fault; verb = first; net = says.net; cert = says.cert; limits = says.limits; budget = says.budget }
 
-  -- the file has this text
-  has_text : (text : Text) → IsFile told net text → HasText words told text
-  has_text text file t e = by_told told file (sym told_text ∙ e) where
-    by_told : (o : Option Files) → IsFile o net text → option_and_then (λ files. files net) o ≡ Some t → t ≡ text
-    by_told None f is = cc
-    by_told (Some files) f is = let same : Some t ≡ Some text = sym is ∙ f in cc
+-- the answer to a task is one to the words
+has_answer : (words : List Text) (told : Option Files) (task : Task) (answer : Answer) → IsTask words task → HasAnswerTo told task answer → HasAnswer words told answer
+has_answer words None task answer is has = record { files = λ name. Some has.text; are_told = tt; is = answered task has.text answer is refl has.is }
+has_answer words (Some files) task answer is has = record { files = files; are_told = refl; is = answered task has.text answer is has.is_file has.is }
 
-  -- the answer that a refused text gives
-  pub refused_for : (text : Text) (fault : InputFault) → IsFile told net text → IsRefused text fault → IsAnswer words told (Refused fault) (refusal_text (input_fault_text fault))
-  refused_for text fault file is = refused net text fault named (there_is net text told file) (has_text text file) is
+-- an answer to the words was given, or couldn't be
+gives : (words : List Text) (old new : DeskState) (answer : Answer) (status : Status) → HasAnswer words old.files answer → EndsGiving old new answer status → Outcome words old new status
+gives words old new answer status has (was_given h) = given answer has h
+gives words old new answer status has (was_ungiven which h) = ungiven answer which has h
 
-  -- the answer that a layout gives
-  pub laid : (n : Netlist) (N : Network) (L : Layout) (g : FormGrid) → ReadsLayout told net n N L g → IsAnswer words told (Found g.ratio) (report_text (report_of n N L.places g))
-  laid n N L g h =
-      let it = h.has_layout in
-      let m : ModuleTree = it.tree in
-      let answer : IsAnswer words told (Found (layout_of m).ratio) (report_text (report m g)) =
-      laid_out net h.text m g named (there_is net h.text told h.file) (has_text h.text h.file) it.laid_out it.grid in
-      subst (λ (r : Ratio). IsAnswer words told (Found r) (report_text (report_of n N L.places g))) (sym it.grid.ratio)
-      (subst (λ (l : Layout). IsAnswer words told (Found (layout_of m).ratio) (report_text (report_of n N l.places g))) (sym it.layout)
-      (subst (λ (M : Network). IsAnswer words told (Found (layout_of m).ratio) (report_text (report_of n M (layout_of m).places g))) (sym it.network)
-      (subst (λ (x : Netlist). IsAnswer words told (Found (layout_of m).ratio) (report_text (report_of x (network_of m) (layout_of m).places g))) (sym it.same) answer)))
+serves_task : (words : List Text) (d : DesignCommand) (old new : DeskState) (status : Status) → IsTask words (task_of d) → EndsDesign d old new status → Outcome words old new status
+serves_task words d old new status is (task_answered answer s has ends) = gives words old new answer s (has_answer words old.files (task_of d) answer is has) ends
+serves_task words d old new status is (task_unread fails) = unread (task_of d) is fails
+serves_task words d old new status is (task_no_memory same) = no_memory same
 
--- the text of an answer was said, or a front of it, after a load or none
-pub serves : {A : Type 0} (words : List (String A)) (old mid new : DeskState) (status result : Status) (text : Text) → IsAnswer words old.files status text → mid ≡ old → EndsSaying mid new status text result → Outcome words old new result
-serves words old mid new status result text is same (done says) = answered status text is (subst (λ (d : DeskState). Says d new text) same says)
-serves words old mid new status result text is same (failed front) = unsaid status text is (subst (λ (d : DeskState). SaysFront d new text) same front)
+-- a command was served
+pub serves : (words : List Text) (old new : DeskState) (command : Command) (status : Status) → EndsCommand command old new status → first_fault words ≡ None → IsCommand words command → Outcome words old new status
+serves words old new (DesignOf d) status ends no_fault is = serves_task words d old new status (is_task words d no_fault is) ends
+
+-- words that are refused
+pub serves_misuse : (words : List Text) (fault : WordFault) (old new : DeskState) (status : Status) → EndsSaying old new (Words fault) (refusal_text (word_fault_text fault)) status → first_fault words ≡ Some fault → Outcome words old new status
+serves_misuse words fault old new status ends first =
+    gives words old new (refusal (Words fault) (word_fault_text fault)) status (by_told old.files) (gives_refusal old new (Words fault) (word_fault_text fault) status ends)
+  where
+    by_told : (told : Option Files) → HasAnswer words told (refusal (Words fault) (word_fault_text fault))
+    by_told None = record { files = λ name. None; are_told = tt; is = misused fault first }
+    by_told (Some files) = record { files = files; are_told = refl; is = misused fault first }
+
+-- ---- its module
+
+-- a load that leaves the desk as it was
+pub same_desk : (d : DesignCommand) (old mid new : DeskState) (status : Status) → mid ≡ old → EndsDesign d mid new status → EndsDesign d old new status
+same_desk d old mid new status same h = subst (λ (x : DeskState). EndsDesign d x new status) same h
+
+pub same_reads : (name : Text) (net : Netlist) (N : Network) (old mid : DeskState) → mid ≡ old → ReadsModule old.files name net N → ReadsModule mid.files name net N
+same_reads name net N old mid same h = subst (λ (d : DeskState). ReadsModule d.files name net N) (sym same) h
+
+-- a file that is refused
+pub refuses : (d : DesignCommand) (old mid new : DeskState) (fault : InputFault) (end : NoModule) (status : Status) → EndsSaying mid new (Refused fault) (refusal_text (input_fault_text fault)) status → FileEnds old mid d.net.now end → end ≡ Fault fault → EndsDesign d old new status
+refuses d old mid new fault end status ends ended is =
+    let why : FileEnds old mid d.net.now (Fault fault) = subst (λ (x : NoModule). FileEnds old mid d.net.now x) is ended in
+    task_answered (refusal (Refused fault) (input_fault_text fault)) status
+    (record { text = why.1.0; is_file = why.1.1; is = refused fault why.1.2 })
+    (gives_refusal old new (Refused fault) (input_fault_text fault) status
+    (subst (λ (x : DeskState). EndsSaying x new (Refused fault) (refusal_text (input_fault_text fault)) status) why.0 ends))
+
+module _ (told : Option Files) (task : Task) (net : Netlist) (N : Network) (reads : ReadsModule told task.net net N) where
+  -- the design of a module's network is an answer
+  pub has_design : (cert : Certificate) (end : Ending) → IsDesign N all_forms task.limits task.budget cert end → HasAnswerTo told task (design_answer task.cert net N cert end)
+  has_design cert end is =
+      let it = reads.has_module in
+      let one : IsAnswerTo task reads.text (designed task it.tree cert end) =
+      searched it.tree cert end it.taken (subst (λ (M : Network). IsDesign M all_forms task.limits task.budget cert end) it.network is) in
+      record {
+        text = reads.text;
+        is_file = reads.file;
+        is = subst (λ (n : Netlist). IsAnswerTo task reads.text (design_answer task.cert n N cert end)) (sym it.same)
+            (subst (λ (M : Network). IsAnswerTo task reads.text (design_answer task.cert (net_of it.tree) M cert end)) (sym it.network) one);
+      }
+
+-- the places of a layout that is worth what it should be
+pub places-all : (N : Network) (permit : PermitTest) (limits : Limits) (budget : ℕ) (cert : Certificate) (end : Ending) → IsMinimal N permit limits budget cert end → HasPlaces N end
+places-all N permit limits budget cert (Found L g) is = is.end_at.1.legal.placed.places
+places-all N permit limits budget cert (Undecided ratio spent) is = tt
+places-all N permit limits budget cert NoneWithin is = tt

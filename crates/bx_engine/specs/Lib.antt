@@ -1,9 +1,9 @@
+pub mod Tasks
 pub mod Statuses
-pub mod Told
-pub mod Chains
-pub mod Columns
-pub mod Counts
 pub mod Said
+pub mod Texts
 pub mod Answers
-pub mod Layouts
+pub mod Effects
 pub mod Outcomes
+pub mod Steps
+pub mod Worth

@@ -1,6 +1,5 @@
--- What is said: a text on a desk, and beside the report of a layout the line of a refusal.
-use Rattle.std.specs.Prelude.{[], ◌∷◌, codes, decimal, ⊤}
-use Rattle.bx_desk.specs.Desk.{DeskState, Says}
+-- What is said: the report of a search, or the line of a refusal.
+use Rattle.std.specs.Prelude.{ℕ, [], ◌∷◌, ◌++◌, codes, decimal, ⊤}
 use Rattle.bx_lex.specs.declared.token.LexFault.{LexFault}
 use Rattle.bx_lex.specs.declared.token.LexFault.TheVariants.{BadByte, OpenComment, OpenAttribute, NoMemory as LexNoMemory}
 use Rattle.bx_syntax.specs.declared.fault.Construct.{Construct}
@@ -10,28 +9,50 @@ use Rattle.bx_syntax.specs.declared.fault.ReadFault.TheVariants.{Syntax, NotTake
 use Rattle.bx_verilog.specs.declared.fault.NetFault.{NetFault}
 use Rattle.bx_verilog.specs.declared.fault.NetFault.TheVariants.{BadPort, NoOutput, TwoDrivers, NoDriver, Cycle, NoMemory as NetNoMemory}
 use Rattle.bx_verilog.specs.Formulas.{Text}
-use Rattle.bx_lines.specs.Lines.{ended}
+use Rattle.bx_logic.specs.Nets.{Netlist}
+use Rattle.bx_grid.specs.declared.ratio.Ratio.{Ratio}
+use Rattle.bx_network.specs.Networks.{Network}
+use Rattle.bx_lines.specs.Lines.{ended, text_of}
 use Rattle.bx_says.specs.Texts.{spaced, IsPlain}
+use Rattle.bx_says.specs.Reports.{head_of, head_lines, report_of, report_text}
+use Rattle.bx_words.specs.Options.{option_name}
+use Rattle.bx_words.specs.declared.faults.WordFault.{WordFault}
+use Rattle.bx_words.specs.declared.faults.WordFault.TheVariants.{Command, Usage, Same, Number as NoNumber, Range, Work}
+use Rattle.bx_design.specs.declared.ending.Ending.{Ending}
+use Rattle.bx_design.specs.declared.ending.Ending.TheVariants.{Found, Undecided, NoneWithin}
 use Rattle.bx_engine.specs.declared.status.InputFault.{InputFault}
-use Rattle.bx_engine.specs.declared.status.InputFault.TheVariants.{TooLong, Lex, Read, Net, Constant, Nodes, NotBuilt}
+use Rattle.bx_engine.specs.declared.status.InputFault.TheVariants.{TooLong, Lex, Read, Net, Constant, Nodes}
 use Rattle.bx_engine.specs.declared.status.Which.{Which}
-use Rattle.bx_engine.specs.declared.status.Which.TheVariants.{NetFile, Output}
-use Rattle.bx_engine.specs.declared.status.WordFault.{WordFault}
-use Rattle.bx_engine.specs.declared.status.WordFault.TheVariants.{Command}
+use Rattle.bx_engine.specs.declared.status.Which.TheVariants.{NetFile, CertFile, Output}
 
--- this text was said on this desk, whose state the function gives, and nothing else changed
-abbrev pub SaysOn : {D : Type 0} → (D → DeskState) → D → D → Text → Type 0
-SaysOn state old new text = Says (state old) (state new) text
+-- ---- reports
+
+abbrev pub undecided_line : Ratio → ℕ → Text
+undecided_line ratio spent = spaced (codes "undecided") (decimal ratio.w ∷ decimal ratio.h ∷ decimal spent ∷ [])
+
+-- what is said of how the search ended: the module and its network, and the layout or why there is none
+abbrev pub ending_text : Netlist → Network → Ending → Text
+ending_text net N (Found L g) = report_text (report_of net N L.places g)
+ending_text net N (Undecided ratio spent) = text_of (head_lines (head_of net N) ++ undecided_line ratio spent ∷ [])
+ending_text net N NoneWithin = text_of (head_lines (head_of net N) ++ codes "none" ∷ [])
+
+-- ---- refusals
 
 -- what a refusal names; want of memory is none, and has a text only because it stands among the faults
 abbrev pub word_fault_text : WordFault → Text
 word_fault_text Command = codes "words command"
+word_fault_text Usage = codes "words usage"
+word_fault_text Same = codes "words same"
+word_fault_text (NoNumber option) = spaced (codes "words number") (option_name option ∷ [])
+word_fault_text (Range option) = spaced (codes "words range") (option_name option ∷ [])
+word_fault_text (Work work) = spaced (codes "words work") (decimal work ∷ [])
 
 abbrev pub memory_text : Text
 memory_text = codes "memory"
 
 abbrev pub which_text : Which → Text
 which_text NetFile = codes "net"
+which_text CertFile = codes "cert"
 which_text Output = codes "output"
 
 -- a place is a number of bytes from the start of the text
@@ -83,7 +104,6 @@ input_fault_text (Read fault) = read_fault_text fault
 input_fault_text (Net fault) = net_fault_text fault
 input_fault_text (Constant name) = spaced (codes "constant") (name ∷ [])
 input_fault_text (Nodes count) = spaced (codes "nodes") (decimal count ∷ [])
-input_fault_text NotBuilt = codes "not built"
 
 unfoldable pub refusal_text : Text → Text
 refusal_text fault = ended (spaced (codes "refused") (fault ∷ []))

@@ -1,39 +1,53 @@
-//! The one call that the program makes: from its words to the said report or refusal, and a status.
+//! The one call that the program makes: from its words to a certificate, a said report or refusal, and a status.
 //!
-//! Its clauses are the tool's promise. Each status is tied to its cause in both directions: it comes
-//! only where its cause stands, and where the cause stands nothing else comes but want of memory or a
-//! fault of the desk, which in turn come only where the desk's count of such faults rose.
-ghost use Rattle.std.specs.Prelude.{◌≡◌, length, Some, None, Option, IsSome, option_map};
-ghost use Rattle.bx_desk.specs.Desk.{Rose, FailsToLoad, SaysFront};
+//! Its clauses are the tool's promise. What is answered is one function of the words and of the files that they
+//! name. Each status is tied to its cause in both directions: it comes only where its cause stands, and where the
+//! cause stands nothing else comes but want of memory or a fault of the desk, which in turn come only where the
+//! desk's count of such faults rose. And of each ratio that is told of, what is told is worth what it says.
+ghost use Rattle.std.specs.Prelude.{◌≡◌, ◌≢◌, ◌⊎◌, ℕ, Some, IsSome, OnOk, OnErr};
+ghost use Rattle.bx_cert.specs.Certs.{Certificate};
+ghost use Rattle.bx_cert.specs.Texts.{cert_text};
+ghost use Rattle.bx_desk.specs.Desk.{Files, FailsToLoad, Says, Writes, WritesFront};
 ghost use Rattle.bx_desk.specs.Pieces.{pending, IsToSay};
+ghost use Rattle.bx_design.specs.Designs.{IsDesign};
+ghost use Rattle.bx_design.specs.declared.ending.Ending.{Ending};
+ghost use Rattle.bx_grid.specs.declared.ratio.Ratio.{Ratio as Sides};
+ghost use Rattle.bx_layout.specs.Permits.{all_forms};
 ghost use Rattle.bx_syntax.specs.Parts.{ModuleTree};
 ghost use Rattle.bx_verilog.specs.Formulas.{Text};
-ghost use Rattle.bx_verilog.specs.Equations.{module_of};
-ghost use Rattle.bx_verilog.specs.Elaboration.{net_of};
-ghost use Rattle.bx_grid.specs.declared.ratio.Ratio.{Ratio as Sides};
-ghost use Rattle.bx_layout.specs.Grids.{FormGrid};
-ghost use Rattle.bx_says.specs.Reports.{report_of, report_text};
-ghost use Rattle.bx_engine.specs.declared.status.Which.{Which as Place};
+ghost use Rattle.bx_words.specs.Verbs.{texts};
+ghost use Rattle.bx_words.specs.Words.{first_fault};
+ghost use Rattle.bx_words.specs.declared.faults.WordFault.{WordFault as Misuse};
 ghost use Rattle.bx_engine.specs.declared.status.InputFault.{InputFault as Fault};
-ghost use Rattle.bx_engine.specs.declared.status.Status.{Status as Ending};
-ghost use Rattle.bx_engine.specs.Statuses.{IsSettled};
-ghost use Rattle.bx_engine.specs.Told.{net_word as net_word_of, IsTold, IsThere};
-ghost use Rattle.bx_engine.specs.Answers.{IsRefused, IsLaidOut, IsGridOf, IsAnswer, network_of, layout_of, report as report_for};
-ghost use Rattle.bx_engine.specs.Layouts.{IsLayout};
-ghost use Rattle.bx_engine.specs.Said.{SaysOn, refusal_text, word_fault_text, input_fault_text};
-ghost use Rattle.bx_engine.specs.Outcomes.{EndsSaying, Outcome, NoneFell};
+ghost use Rattle.bx_engine.specs.declared.status.Which.{Which as Place};
+ghost use Rattle.bx_engine.specs.Answers.{Answer, IsAnswer};
+ghost use Rattle.bx_engine.specs.Effects.{Gives, HasGiven, FailsToGive, WritesFile, FailsToWrite, NoneFell, RoseAt, file_at};
+ghost use Rattle.bx_engine.specs.Outcomes.{HasAnswer, Outcome, ReadsModule, EndsSaying};
+ghost use Rattle.bx_engine.specs.Said.{ending_text, refusal_text, word_fault_text, input_fault_text};
+ghost use Rattle.bx_engine.specs.Statuses.{IsSettled, IsSearched, status_of};
+ghost use Rattle.bx_engine.specs.Steps.{file_of, design_answer, HasPlaces, EndsGiving, EndsDesign, EndsCommand};
+ghost use Rattle.bx_engine.specs.Tasks.{Task, IsTask, IsToldText, IsThere};
+ghost use Rattle.bx_engine.specs.Texts.{IsRefused, IsTaken, network_of};
+ghost use Rattle.bx_engine.specs.Worth.{IsFound, IsLeftUndecided, IsNoneWithin};
 
-use crate::design::{Design, NoDesign, lay_out};
-use crate::refusal::{put_fault, put_refusal};
+use crate::load::{Module, NoModule, load_module};
+use crate::permit::all_forms;
+use crate::refusal::{put_fault, put_word_fault};
 use crate::report::put_report;
-use crate::status::{InputFault, Status, Which, WordFault};
+use crate::status::{InputFault, Status, Which};
+use bx_cert::{Cert, write_cert};
+use bx_design::{Design, Ending, find_design};
 use bx_desk::{Desk, Failed, Gate, Piece};
+use bx_layout::Permit;
+use bx_logic::NoMemory;
+use bx_words::{Command, DesignCommand, NoCommand, WordFault, read_words};
 use std::alloc::Global;
 use std::thread::Threads;
 
-/// Runs the command of the words: `design NET` lays out the module in the file NET, and says the
-/// report. It waits for nobody. All the memory that it takes is taken before anything is said. The gate
-/// is not entered and no thread is started yet.
+/// Runs the command of the words: `design NET CERT` finds the layout of least area and then width of the module in
+/// the file NET, writes the certificate that no earlier ratio has one to CERT, and says the report. It waits for
+/// nobody. All the memory that it takes is taken before CERT is started. The gate is not entered and no thread is
+/// started yet.
 pub fn run<T: Threads + Sync, D: Desk, G: Gate + Sync>(
     _threads: &T,
     alloc: Global,
@@ -41,94 +55,187 @@ pub fn run<T: Threads + Sync, D: Desk, G: Gate + Sync>(
     desk: &mut D,
     _gate: &G,
 ) -> Status
-    // On every desk, also one that tells nothing of its files, a settled status is the answer to some text that
-    // the file may have, and what goes with it was said.
-    ensures answered { IsSettled result → (text : Text) × IsAnswer words.now (D.state desk.old).files result text × SaysOn D.state desk.old desk.new text }
+    // What is answered is one function of the words and of the desk's files: a settled status is its status, its file
+    // was written and its text was said, and nothing else changed. Where the desk doesn't tell its files, that is so
+    // of some that it may have.
+    ensures answered { IsSettled result → (answer : Answer) × HasAnswer (texts words.now) (D.state desk.old).files answer
+        × (result ≡ answer.status) × Gives (D.state desk.old) (D.state desk.new) answer }
+    ensures exact { IsSettled result → (files : Files) → (D.state desk.old).files ≡ Some files → (answer : Answer)
+        → IsAnswer (texts words.now) files answer → (result ≡ answer.status) × Gives (D.state desk.old) (D.state desk.new) answer }
 
-    // The words are refused where they aren't `design` and a file, and only there.
-    ensures words_only { result ≡ Status.Words WordFault.Command → net_word_of words.now ≡ None }
-    ensures words { IsSettled result → net_word_of words.now ≡ None → result ≡ Status.Words WordFault.Command }
-    ensures words_said { result ≡ Status.Words WordFault.Command
-        → SaysOn D.state desk.old desk.new (refusal_text (word_fault_text WordFault.Command)) }
+    // Words are refused for what is first wrong with them, and for nothing else. The refusal is said, and nothing
+    // else changes.
+    ensures words_only { (fault : Misuse) → result ≡ Status.Words fault → first_fault (texts words.now) ≡ Some fault }
+    ensures words { IsSettled result → (fault : Misuse) → first_fault (texts words.now) ≡ Some fault → result ≡ Status.Words fault }
+    ensures words_said { (fault : Misuse) → result ≡ Status.Words fault
+        → Says (D.state desk.old) (D.state desk.new) (refusal_text (word_fault_text fault)) }
 
-    // A file is refused for what is first wrong with its text, at its place, and for nothing else.
-    ensures refused_only { (fault : Fault) → result ≡ Status.Refused fault → (text : Text) → IsTold words.now (D.state desk.old).files text
-        → IsRefused text fault }
-    ensures refused { IsSettled result → (text : Text) → IsTold words.now (D.state desk.old).files text → (fault : Fault) → IsRefused text fault
-        → result ≡ Status.Refused fault }
+    // A file is refused for what is first wrong with its text, at its place, and for nothing else. The refusal is
+    // said, and nothing else changes.
+    ensures refused_only { (fault : Fault) → result ≡ Status.Refused fault → (task : Task) (text : Text)
+        → IsToldText (texts words.now) (D.state desk.old).files task text → IsRefused text fault }
+    ensures refused { IsSettled result → (task : Task) (text : Text) → IsToldText (texts words.now) (D.state desk.old).files task text
+        → (fault : Fault) → IsRefused text fault → result ≡ Status.Refused fault }
     ensures refused_said { (fault : Fault) → result ≡ Status.Refused fault
-        → SaysOn D.state desk.old desk.new (refusal_text (input_fault_text fault)) }
+        → Says (D.state desk.old) (D.state desk.new) (refusal_text (input_fault_text fault)) }
 
-    // A layout is found where the text is that of an accepted module which is mapped to a chain, and only there,
-    // and its report is said.
-    ensures found_only { (ratio : Sides) → result ≡ Status.Found ratio → (text : Text) → IsTold words.now (D.state desk.old).files text
-        → (m : ModuleTree) × IsLaidOut text m × (ratio ≡ (layout_of m).ratio) }
-    ensures found { IsSettled result → (text : Text) → IsTold words.now (D.state desk.old).files text → (m : ModuleTree) → IsLaidOut text m
-        → result ≡ Status.Found (layout_of m).ratio }
-    ensures found_said { (ratio : Sides) → result ≡ Status.Found ratio → (text : Text) → IsTold words.now (D.state desk.old).files text
-        → (m : ModuleTree) → IsLaidOut text m → (g : FormGrid) × IsGridOf m g × SaysOn D.state desk.old desk.new (report_text (report_for m g)) }
+    // The ratios of the others are searched: the status is that of the design of the module's network, whether one
+    // is found, left undecided or none, and of nothing else.
+    ensures searched_only { IsSearched result → (task : Task) (text : Text) → IsToldText (texts words.now) (D.state desk.old).files task text
+        → (m : ModuleTree) × IsTaken text m × ((cert : Certificate) × (end : Ending)
+        × IsDesign (network_of m) all_forms task.limits task.budget cert end × (result ≡ status_of end)) }
+    ensures taken { IsSettled result → (task : Task) (text : Text) → IsToldText (texts words.now) (D.state desk.old).files task text
+        → (m : ModuleTree) → IsTaken text m → (cert : Certificate) × (end : Ending)
+        × IsDesign (network_of m) all_forms task.limits task.budget cert end × (result ≡ status_of end) }
+    ensures searched { IsSettled result → (task : Task) (text : Text) → IsToldText (texts words.now) (D.state desk.old).files task text
+        → (m : ModuleTree) → IsTaken text m → (cert : Certificate) (end : Ending)
+        → IsDesign (network_of m) all_forms task.limits task.budget cert end → result ≡ status_of end }
 
-    // What the report prints is a sound layout that computes the module, and on each earlier ratio some node is late.
-    ensures layout { (ratio : Sides) → result ≡ Status.Found ratio → (text : Text) → IsTold words.now (D.state desk.old).files text
-        → (m : ModuleTree) → IsLaidOut text m → (g : FormGrid) → IsGridOf m g → IsLayout (net_of m) (module_of m) (network_of m) ratio (report_for m g) }
+    // What is said of a found ratio is a sound layout that computes the module; what is written shows that no earlier
+    // ratio has a legal layout.
+    ensures found { (ratio : Sides) → result ≡ Status.Found ratio → (task : Task) (text : Text)
+        → IsToldText (texts words.now) (D.state desk.old).files task text → (m : ModuleTree) → IsTaken text m
+        → (bytes said : Text) × IsFound task m ratio bytes said × HasGiven (D.state desk.old) (D.state desk.new) task bytes said }
+    ensures undecided { (ratio : Sides) (spent : ℕ) → result ≡ Status.Undecided ratio spent → (task : Task) (text : Text)
+        → IsToldText (texts words.now) (D.state desk.old).files task text → (m : ModuleTree) → IsTaken text m
+        → (bytes said : Text) × IsLeftUndecided task m ratio spent bytes said × HasGiven (D.state desk.old) (D.state desk.new) task bytes said }
+    ensures none_within { result ≡ Status.NoneWithin → (task : Task) (text : Text)
+        → IsToldText (texts words.now) (D.state desk.old).files task text → (m : ModuleTree) → IsTaken text m
+        → (bytes said : Text) × IsNoneWithin task m bytes said × HasGiven (D.state desk.old) (D.state desk.new) task bytes said }
 
     // A status that says anything of the file comes only where the file is there, and where nothing failed.
-    ensures there { IsSettled result → (net : Text) → net_word_of words.now ≡ Some net → IsThere (D.state desk.old).files net }
+    ensures there { IsSettled result → (task : Task) → IsTask (texts words.now) task → IsThere (D.state desk.old).files task.net }
     ensures settled_no_fault { IsSettled result → (D.state desk.new).faults ≡ (D.state desk.old).faults }
 
-    // Faults of the desk come only where its counts rose. After a fault of reading nothing but the count of loads
-    // has changed, and after want of memory nothing at all: nothing was said, and nothing was tried to be said.
+    // Faults of the desk come only where its counts rose, so where none rose the status is settled or want of memory.
+    // After a fault of reading nothing but the count of loads has changed, and after want of memory nothing at all:
+    // nothing was written or said, nor tried to be.
+    ensures faults_rose { (which : Place) → (result ≡ Status.ReadFault which) ⊎ (result ≡ Status.WriteFault which)
+        → RoseAt which (D.state desk.old).faults (D.state desk.new).faults }
+    ensures complete { ((which : Place) → RoseAt which (D.state desk.old).faults (D.state desk.new).faults → ⊥)
+        → (result ≡ Status.NoMemory) ⊎ IsSettled result }
     ensures read_fault { (which : Place) → result ≡ Status.ReadFault which
-        → (which ≡ Which.NetFile) × IsSome (net_word_of words.now) × FailsToLoad (D.state desk.old) (D.state desk.new) }
-    ensures write_fault { (which : Place) → result ≡ Status.WriteFault which
-        → (which ≡ Which.Output) × Rose (D.state desk.old).faults.say (D.state desk.new).faults.say }
-    ensures write_fault_said { (which : Place) → result ≡ Status.WriteFault which
-        → (status : Ending) × (text : Text) × IsAnswer words.now (D.state desk.old).files status text × SaysFront (D.state desk.old) (D.state desk.new) text }
+        → (which ≡ Which.NetFile) × ((task : Task) × IsTask (texts words.now) task) × FailsToLoad (D.state desk.old) (D.state desk.new) }
     ensures no_memory_stays { result ≡ Status.NoMemory → D.state desk.new ≡ D.state desk.old }
 
-    // Whatever comes, no count falls, no file changes, and the started file is the same.
+    // After a fault of writing the file is as it was or empty where it couldn't be started, and else has a front of
+    // its text, and nothing was said. After a fault of saying the file is whole, and a front of the text was said.
+    ensures write_fault { (which : Place) → result ≡ Status.WriteFault which → (answer : Answer)
+        × HasAnswer (texts words.now) (D.state desk.old).files answer × FailsToGive (D.state desk.old) (D.state desk.new) answer which }
+
+    // Whatever comes, no count falls, and every file stays but the one that is to be written.
     ensures none_fell { NoneFell (D.state desk.old).faults (D.state desk.new).faults }
-    ensures files_stay { (D.state desk.new).files ≡ (D.state desk.old).files }
-    ensures started_stays { (D.state desk.new).started ≡ (D.state desk.old).started }
+    ensures others_stay { (name : Text) → ((task : Task) → IsTask (texts words.now) task → task.cert ≢ name)
+        → file_at (D.state desk.new).files name ≡ file_at (D.state desk.old).files name }
 {
     serve(alloc, words, desk)
 }
 
 // What `run` does, in one clause.
 fn serve<D: Desk>(alloc: Global, words: &[String], desk: &mut D) -> Status
-    ensures { Outcome words.now (D.state desk.old) (D.state desk.new) result }
+    ensures { Outcome (texts words.now) (D.state desk.old) (D.state desk.new) result }
 {
-    let Some(net) = net_word(words) else {
-        return refuse_words(desk);
-    };
-    match lay_out(alloc, net, desk) {
-        Ok(design) => report(&design, desk),
-        Err(NoDesign::Fault(fault)) => refuse(desk, fault),
-        Err(NoDesign::Unread) => Status::ReadFault(Which::NetFile),
-        Err(NoDesign::NoMemory) => Status::NoMemory,
+    match read_words(alloc, words) {
+        Ok(command) => serve_command(alloc, &command, desk),
+        Err(NoCommand::Fault(fault)) => refuse_words(desk, fault),
+        Err(NoCommand::NoMemory) => Status::NoMemory,
     }
 }
 
-// The file that the words name.
-fn net_word(words: &[String]) -> Option<&str>
-    ensures { option_map (λ net. net.now) result ≡ net_word_of words.now }
+// Serves a command.
+fn serve_command<D: Desk>(alloc: Global, command: &Command, desk: &mut D) -> Status
+    ensures { EndsCommand command.now (D.state desk.old) (D.state desk.new) result }
 {
-    match words {
-        [command, net] if command.as_str() == "design" => Some(net.as_str()),
-        _ => None,
+    match command {
+        Command::Design(command) => serve_design(alloc, command, desk),
     }
 }
 
-// Says the report of a design.
-fn report<D: Desk>(design: &Design, desk: &mut D) -> Status
-    requires { length design.now.layout.places ≡ length design.now.mapped.nodes }
-    ensures { EndsSaying (D.state desk.old) (D.state desk.new) (Status.Found design.now.grid.ratio)
-        (report_text (report_of design.now.net design.now.mapped design.now.layout.places design.now.grid)) result }
+// Serves `design`: loads the module, and goes on where it has a network.
+fn serve_design<D: Desk>(alloc: Global, command: &DesignCommand, desk: &mut D) -> Status
+    ensures { EndsDesign command.now (D.state desk.old) (D.state desk.new) result }
+{
+    match load_module(alloc, command.net, desk) {
+        Ok(source) => lay_out(alloc, command, &source, desk),
+        Err(NoModule::Fault(fault)) => refuse(desk, fault),
+        Err(NoModule::Unread) => Status::ReadFault(Which::NetFile),
+        Err(NoModule::NoMemory) => Status::NoMemory,
+    }
+}
+
+// Finds the design of a module, and gives it. No memory is taken after that.
+fn lay_out<D: Desk>(alloc: Global, command: &DesignCommand, source: &Module, desk: &mut D) -> Status
+    requires { ReadsModule (D.state desk.old).files command.now.net.now source.now.net source.now.mapped }
+    ensures { EndsDesign command.now (D.state desk.old) (D.state desk.new) result }
+{
+    let permit = Permit::same(all_forms());
+    match find_design(
+        alloc,
+        &source.mapped,
+        &permit,
+        command.limits,
+        command.budget,
+    ) {
+        Ok(design) => give(command.cert, source, &design, desk),
+        Err(NoMemory) => Status::NoMemory,
+    }
+}
+
+// Writes the certificate of a design, and then says its report.
+fn give<D: Desk>(cert: &str, source: &Module, design: &Design, desk: &mut D) -> Status
+    requires { HasPlaces source.now.mapped design.now.end }
+    ensures { EndsGiving (D.state desk.old) (D.state desk.new)
+        (design_answer cert.now source.now.net source.now.mapped design.now.cert design.now.end) result }
+{
+    match write_file(cert, &design.cert, desk) {
+        Ok(()) => report(source, &design.end, desk),
+        Err(Failed) => Status::WriteFault(Which::CertFile),
+    }
+}
+
+// Writes a certificate to the file of this name.
+fn write_file<D: Desk>(name: &str, cert: &Cert, desk: &mut D) -> Result<(), Failed>
+    ensures ok { OnOk result (WritesFile (D.state desk.old) (D.state desk.new) (file_of name.now cert.now)) }
+    ensures err { OnErr result (FailsToWrite (D.state desk.old) (D.state desk.new) (file_of name.now cert.now)) }
+{
+    desk.start(name)?;
+    put_file(cert, desk)
+}
+
+// Writes a certificate to the started file.
+fn put_file<D: Desk>(cert: &Cert, desk: &mut D) -> Result<(), Failed>
+    requires { IsSome (D.state desk.old).started }
+    ensures ok { OnOk result (Writes (D.state desk.old) (D.state desk.new) (cert_text cert.now)) }
+    ensures err { OnErr result (WritesFront (D.state desk.old) (D.state desk.new) (cert_text cert.now)) }
+{
+    let mut piece = Piece::to_file();
+    match write_cert(cert, &mut piece, desk) {
+        Ok(()) => piece.end(desk),
+        Err(Failed) => Err(Failed),
+    }
+}
+
+// Says the report of how a search ended.
+fn report<D: Desk>(source: &Module, end: &Ending, desk: &mut D) -> Status
+    requires { HasPlaces source.now.mapped end.now }
+    ensures { EndsSaying (D.state desk.old) (D.state desk.new) (status_of end.now)
+        (ending_text source.now.net source.now.mapped end.now) result }
 {
     let mut piece = Piece::to_say();
-    match put_report(design, &mut piece, desk) {
-        Ok(()) => end(piece, desk, Status::Found(design.grid.ratio())),
+    match put_report(source, end, &mut piece, desk) {
+        Ok(()) => end_saying(piece, desk, end_status(end)),
         Err(Failed) => Status::WriteFault(Which::Output),
+    }
+}
+
+// The status of how a search ended.
+fn end_status(end: &Ending) -> Status
+    ensures { result ≡ status_of end.now }
+{
+    match end {
+        Ending::Found(layout, _) => Status::Found(layout.ratio),
+        Ending::Undecided(ratio, spent) => Status::Undecided(*ratio, *spent),
+        Ending::NoneWithin => Status::NoneWithin,
     }
 }
 
@@ -138,24 +245,24 @@ fn refuse<D: Desk>(desk: &mut D, fault: InputFault) -> Status
 {
     let mut piece = Piece::to_say();
     match put_fault(&fault, &mut piece, desk) {
-        Ok(()) => end(piece, desk, Status::Refused(fault)),
+        Ok(()) => end_saying(piece, desk, Status::Refused(fault)),
         Err(Failed) => Status::WriteFault(Which::Output),
     }
 }
 
-// Says the refusal of words that are no command.
-fn refuse_words<D: Desk>(desk: &mut D) -> Status
-    ensures { EndsSaying (D.state desk.old) (D.state desk.new) (Status.Words WordFault.Command) (refusal_text (word_fault_text WordFault.Command)) result }
+// Says the refusal of words.
+fn refuse_words<D: Desk>(desk: &mut D, fault: WordFault) -> Status
+    ensures { EndsSaying (D.state desk.old) (D.state desk.new) (Status.Words fault) (refusal_text (word_fault_text fault)) result }
 {
     let mut piece = Piece::to_say();
-    match put_refusal(b"words command", &[], &mut piece, desk) {
-        Ok(()) => end(piece, desk, Status::Words(WordFault::Command)),
+    match put_word_fault(fault, &mut piece, desk) {
+        Ok(()) => end_saying(piece, desk, Status::Words(fault)),
         Err(Failed) => Status::WriteFault(Which::Output),
     }
 }
 
 // Hands on what a piece holds, and ends with the status if that is said.
-fn end<D: Desk>(mut piece: Piece, desk: &mut D, status: Status) -> Status
+fn end_saying<D: Desk>(mut piece: Piece, desk: &mut D, status: Status) -> Status
     requires { IsToSay piece }
     ensures { EndsSaying (D.state desk.old) (D.state desk.new) status (pending piece) result }
 {

@@ -1,18 +1,18 @@
 //! The one call that the program makes, and what its answers mean.
 #![tactic(auto)]
 
-mod chain;
-mod column;
-mod design;
 mod engine;
 pub mod laws;
 pub mod limits;
+mod load;
+mod permit;
 mod refusal;
 mod report;
 mod status;
 
+pub use bx_words::{Opt, WordFault};
 pub use engine::run;
-pub use status::{InputFault, Status, Which, WordFault};
+pub use status::{InputFault, Status, Which};
 
 #[cfg(test)]
 mod tests;

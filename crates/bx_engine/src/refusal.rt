@@ -5,7 +5,8 @@ ghost use Rattle.bx_desk.specs.Desk.{CanPut};
 ghost use Rattle.bx_desk.specs.Pieces.{target_of, PutsOut};
 ghost use Rattle.bx_says.specs.Texts.{spaced};
 ghost use Rattle.bx_says.specs.Words.{word_text};
-ghost use Rattle.bx_engine.specs.Said.{refusal_text, memory_text, which_text, construct_text, lex_fault_text, read_fault_text, net_fault_text, input_fault_text};
+ghost use Rattle.bx_words.specs.Options.{option_name};
+ghost use Rattle.bx_engine.specs.Said.{refusal_text, word_fault_text, memory_text, which_text, construct_text, lex_fault_text, read_fault_text, net_fault_text, input_fault_text};
 
 use crate::status::{InputFault, Which};
 use bx_desk::{Desk, Failed, Piece};
@@ -13,6 +14,7 @@ use bx_lex::LexFault;
 use bx_logic::Name;
 use bx_says::{Word, put_spaced, put_word, put_words};
 use bx_verilog::{Construct, NetFault, ReadFault};
+use bx_words::{Opt, WordFault};
 
 /// Puts out the line of a refusal, which names these words.
 pub(crate) fn put_refusal<D: Desk>(
@@ -29,6 +31,39 @@ pub(crate) fn put_refusal<D: Desk>(
     put_spaced(Word::Text(first), piece, desk)?;
     put_words(further, piece, desk)?;
     put_word(Word::Text(b"\n"), piece, desk)
+}
+
+/// Puts out the line of the refusal of words.
+pub(crate) fn put_word_fault<D: Desk>(
+    fault: WordFault,
+    piece: &mut Piece,
+    desk: &mut D,
+) -> Result<(), Failed>
+    requires { CanPut (target_of piece.old) (D.state desk.old) }
+    ensures { PutsOut (D.state desk.old) (D.state desk.new) result piece.old piece.new (refusal_text (word_fault_text fault)) }
+{
+    match fault {
+        WordFault::Command => put_refusal(b"words command", &[], piece, desk),
+        WordFault::Usage => put_refusal(b"words usage", &[], piece, desk),
+        WordFault::Same => put_refusal(b"words same", &[], piece, desk),
+        WordFault::Number(option) => put_option(b"words number", option, piece, desk),
+        WordFault::Range(option) => put_option(b"words range", option, piece, desk),
+        WordFault::Work(work) => { put_refusal(b"words work", &[Word::Number(work)], piece, desk) }
+    }
+}
+
+// Puts out the line of a refusal that names an option.
+fn put_option<D: Desk>(
+    fault: &[u8],
+    option: Opt,
+    piece: &mut Piece,
+    desk: &mut D,
+) -> Result<(), Failed>
+    requires { CanPut (target_of piece.old) (D.state desk.old) }
+    ensures { PutsOut (D.state desk.old) (D.state desk.new) result piece.old piece.new
+        (refusal_text (spaced fault.now (option_name option ∷ []))) }
+{
+    put_refusal(fault, &[Word::Text(option.name().as_bytes())], piece, desk)
 }
 
 /// Puts out the line of the refusal of an input.
@@ -49,7 +84,6 @@ pub(crate) fn put_fault<D: Desk>(
         InputFault::Net(fault) => put_net_fault(fault, piece, desk),
         InputFault::Constant(name) => put_named(b"constant", name, piece, desk),
         InputFault::Nodes(count) => put_refusal(b"nodes", &[Word::Number(*count)], piece, desk),
-        InputFault::NotBuilt => put_refusal(b"not built", &[], piece, desk),
     }
 }
 
@@ -59,7 +93,8 @@ fn which_word(which: Which) -> &'static [u8]
 {
     match which {
         Which::NetFile => b"net",
-        // Never comes: only a file is too long.
+        // These never come: only the file of the module is read.
+        Which::CertFile => b"cert",
         Which::Output => b"output",
     }
 }

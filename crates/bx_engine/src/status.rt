@@ -6,12 +6,18 @@ use bx_grid::Ratio;
 use bx_lex::LexFault;
 use bx_logic::Name;
 use bx_verilog::{NetFault, ReadFault};
+use bx_words::WordFault;
 
 /// How a run ended.
 #[derive(Debug, Drop)]
 pub enum Status {
-    /// A layout was found, of this ratio, and the report was said.
+    /// A layout was found, of this ratio. The certificate was written, and the report said.
     Found(Ratio),
+    /// The first ratio that isn't refuted, and how much of the budget was spent on it: the next step would have
+    /// passed the budget. The certificate was written, and the report said.
+    Undecided(Ratio, u64),
+    /// No ratio within the limits has a layout. The certificate was written, and the report said.
+    NoneWithin,
     /// The input was refused, and the refusal was said.
     Refused(InputFault),
     /// A file could not be read. Nothing was said.
@@ -20,7 +26,7 @@ pub enum Status {
     WriteFault(Which),
     /// Memory was refused. Nothing was said.
     NoMemory,
-    /// The words are no command, and the refusal was said.
+    /// Something is wrong with the words, and the refusal was said.
     Words(WordFault),
 }
 
@@ -40,15 +46,6 @@ pub enum InputFault {
     Constant(Name),
     /// The mapped network has so many nodes, more than are laid out.
     Nodes(u64),
-    /// The mapped network isn't of a form that is laid out yet.
-    NotBuilt,
-}
-
-/// What is wrong with the words.
-#[derive(Clone, Copy, Debug, PartialEq, Eq)]
-pub enum WordFault {
-    /// They don't begin with a command, or it has other words than it takes.
-    Command,
 }
 
 /// A file or output that a fault is about.
@@ -56,6 +53,8 @@ pub enum WordFault {
 pub enum Which {
     /// The file of the module, which the words name.
     NetFile,
+    /// The file that the certificate is written to, which the words name.
+    CertFile,
     /// What the run says.
     Output,
 }
@@ -63,13 +62,16 @@ pub enum Which {
 impl Status {
     ghost use Rattle.bx_engine.specs.Statuses.{exit_status};
 
-    /// The exit status of the program: 0 found, 1 refused, 4 read or write fault, 5 no memory, 6 words.
+    /// The exit status of the program: 0 found, 1 refused, 2 undecided, 3 none within the
+    /// limits, 4 read or write fault, 5 no memory, 6 words.
     pub fn code(&self) -> u8
         ensures { result ≡ exit_status self.now }
     {
         match self {
             Status::Found(_) => 0,
             Status::Refused(_) => 1,
+            Status::Undecided(_, _) => 2,
+            Status::NoneWithin => 3,
             Status::ReadFault(_) | Status::WriteFault(_) => 4,
             Status::NoMemory => 5,
             Status::Words(_) => 6,

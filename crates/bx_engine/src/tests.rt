@@ -1,3 +1,5 @@
+//! Whole runs on a desk in memory: what is said and written, with which status, and what comes of each call of the
+//! desk that fails.
 use super::*;
 use crate::limits::MODULE_BYTES;
 use bx_desk::{Gate, MemDesk, OpenGate};
@@ -15,75 +17,196 @@ fn words(alloc: Global, line: &str) -> Result<Vec<String>, NoMemory> {
     Ok(words)
 }
 
-// A desk with one file, and room for the reports of these tests.
+// A desk with a module, a place for its certificate, and room for what these tests say.
 fn desk_with(alloc: Global, text: &[u8]) -> Result<MemDesk, NoMemory> {
     let mut desk = MemDesk::new(alloc);
     desk.put("net.v", text)?;
+    desk.make_room("out.cert", 65_536)?;
     desk.say_room(4096)?;
     Ok(desk)
 }
 
-// The text of a file, the exit status, and what is said.
-const ROWS: [(&str, u8, &str); 11] = [
+// How many lines begin so.
+fn lines_with(text: &[u8], front: &str) -> usize {
+    text.split(|byte| *byte == b'\n')
+        .filter(|line| line.starts_with(front.as_bytes()))
+        .count()
+}
+
+const WIRE: &str = "module m(a, y); input a; output y; assign y = a; endmodule";
+
+const WIRE_REPORT: &str =
+    "module m\nnodes 2 edges 1\nfound 1 2\ninput a 0 0\noutput y 0 1\nrow 0 input_r\nrow 1 output_l\n";
+
+const WIRE_CERT: &str =
+    "bestagon cert 1\nlimits 100 144 144 100000\ncount 1 1 late 0\nfound 1 2\nplace 0 0\nplace 0 1\nend\n";
+
+const INVERTER: &str = "module m(a, y); input a; output y; not (y, a); endmodule\n";
+
+const INVERTER_REPORT: &str =
+    "module m\nnodes 3 edges 2\nfound 1 3\ninput a 0 0\noutput y 0 2\nrow 0 input_r\nrow 1 not_ll\nrow 2 output_r\n";
+
+// A module, further words, the exit status, the report and the certificate.
+const ANSWERS: [(&str, &str, u8, &str, &str); 6] = [
+    (WIRE, "", 0, WIRE_REPORT, WIRE_CERT),
     (
-        "module m(a, y); input a; output y; not (y, a); endmodule\n",
+        WIRE,
+        "--budget 0",
         0,
-        "module m\nnodes 3 edges 2\nfound 1 3\ninput a 0 0\noutput y 0 2\nrow 0 input_r\nrow 1 not_ll\nrow 2 output_r\n",
+        WIRE_REPORT,
+        "bestagon cert 1\nlimits 100 144 144 0\ncount 1 1 late 0\nfound 1 2\nplace 0 0\nplace 0 1\nend\n",
     ),
     (
-        "module m(a, y); input a; output y; buf (t, a); not (y, t); endmodule",
+        WIRE,
+        "--area 144",
         0,
-        "module m\nnodes 3 edges 2\nfound 1 3\ninput a 0 0\noutput y 0 2\nrow 0 input_r\nrow 1 not_ll\nrow 2 output_r\n",
+        WIRE_REPORT,
+        "bestagon cert 1\nlimits 144 144 144 50000\ncount 1 1 late 0\nfound 1 2\nplace 0 0\nplace 0 1\nend\n",
+    ),
+    (
+        WIRE,
+        "--area 2 --budget 22369621",
+        0,
+        WIRE_REPORT,
+        "bestagon cert 1\nlimits 2 144 144 22369621\ncount 1 1 late 0\nfound 1 2\nplace 0 0\nplace 0 1\nend\n",
+    ),
+    (
+        WIRE,
+        "--area 1",
+        3,
+        "module m\nnodes 2 edges 1\nnone\n",
+        "bestagon cert 1\nlimits 1 144 144 100000\ncount 1 1 late 0\nnone\nend\n",
+    ),
+    (
+        INVERTER,
+        "",
+        0,
+        INVERTER_REPORT,
+        "bestagon cert 1\nlimits 100 144 144 100000\ncount 1 1 late 0\ncount 1 2 late 0\ncount 2 1 late 0\nfound 1 3\nplace 0 0\nplace 0 1\nplace 0 2\nend\n",
+    ),
+];
+
+// A module of one input, and its report.
+const CHAINS: [(&str, &str); 9] = [
+    (
+        "module m(a, y); input a; output y; buf (t, a); not (y, t); endmodule",
+        INVERTER_REPORT,
     ),
     (
         "module m(a, y); input a; output y; not (t, a); not (y, t); endmodule",
-        0,
         "module m\nnodes 4 edges 3\nfound 1 4\ninput a 0 0\noutput y 0 3\nrow 0 input_r\nrow 1 not_ll\nrow 2 not_rr\nrow 3 output_l\n",
     ),
     (
         "module a(a, y); input a; output y; buf (y, a); endmodule",
-        0,
         "module a\nnodes 2 edges 1\nfound 1 2\ninput a 0 0\noutput y 0 1\nrow 0 input_r\nrow 1 output_l\n",
     ),
     (
-        "module m(a, y); input a; output y; assign y = a; endmodule",
-        0,
-        "module m\nnodes 2 edges 1\nfound 1 2\ninput a 0 0\noutput y 0 1\nrow 0 input_r\nrow 1 output_l\n",
+        "module m(a, y);\ninput a;\noutput y;\nassign y = a;\nendmodule",
+        WIRE_REPORT,
     ),
     (
         "module m(input a, output y); wire t = ~a; // twice\nassign y = ~t; endmodule",
-        0,
         "module m\nnodes 4 edges 3\nfound 1 4\ninput a 0 0\noutput y 0 3\nrow 0 input_r\nrow 1 not_ll\nrow 2 not_rr\nrow 3 output_l\n",
     ),
     (
         "module m(a, y); input a; output y; assign y = a ^ 1'b1; endmodule",
-        0,
-        "module m\nnodes 3 edges 2\nfound 1 3\ninput a 0 0\noutput y 0 2\nrow 0 input_r\nrow 1 not_ll\nrow 2 output_r\n",
+        INVERTER_REPORT,
     ),
     (
         "module m(a, y); input a; output y; assign y = a & 1'h1; endmodule",
-        0,
-        "module m\nnodes 2 edges 1\nfound 1 2\ninput a 0 0\noutput y 0 1\nrow 0 input_r\nrow 1 output_l\n",
+        WIRE_REPORT,
     ),
     (
         "module m(a, b, y); input a, b; output y; buf (y, a); endmodule",
-        0,
         "module m\nnodes 2 edges 1\nunused b\nfound 1 2\ninput a 0 0\noutput y 0 1\nrow 0 input_r\nrow 1 output_l\n",
     ),
     (
         "module m(a, b, c, y); input a, b, c; output y; nor (y, b); endmodule",
-        0,
         "module m\nnodes 3 edges 2\nunused a\nunused c\nfound 1 3\ninput b 0 0\noutput y 0 2\nrow 0 input_r\nrow 1 not_ll\nrow 2 output_r\n",
     ),
+];
+
+const AND: &str = "module m(a, b, y); input a, b; output y; and (y, a, b); endmodule";
+
+const HALF_ADDER: &str =
+    "module ha(a, b, s, c); input a, b; output s, c; xor (s, a, b); and (c, a, b); endmodule";
+
+const TOP: &str =
+    "// Benchmark \"top\"\nmodule top ( \\a[0] , b, c, y );\n  input  \\a[0] , b, c;\n  output y;\n  wire n1;\n  assign n1 = \\a[0]  & ~b;\n  assign y = ~n1;\nendmodule\n";
+
+// A module, further words, the exit status, how the report begins, how many sections of the certificate are counts
+// and how many clauses, and some of its lines.
+const GATES: [(&str, &str, u8, &str, usize, usize, [&str; 3]); 4] = [
     (
-        "// Benchmark \"top\"\nmodule top ( \\a[0] , b, c, y );\n  input  \\a[0] , b, c;\n  output y;\n  wire n1;\n  assign n1 = \\a[0]  & ~b;\n  assign y = ~n1;\nendmodule\n",
+        AND,
+        "",
+        0,
+        "module m\nnodes 4 edges 3\nfound 2 3\n",
+        11,
+        0,
+        ["count 1 3 crowd 0 0", "found 2 3", "place 0 1"],
+    ),
+    (
+        HALF_ADDER,
+        "--area 15 --budget 1000000",
+        0,
+        "module ha\nnodes 8 edges 8\nfound 3 5\n",
+        41,
         1,
-        "refused not built\n",
+        ["count 2 7 pair 1 3", "clauses 3 4 ", "found 3 5"],
+    ),
+    (
+        HALF_ADDER,
+        "--area 15 --budget 0",
+        2,
+        "module ha\nnodes 8 edges 8\nundecided 3 4 0\n",
+        31,
+        0,
+        ["limits 15 144 144 0", "count 2 4 cut 1", "undecided 3 4 0"],
+    ),
+    (
+        TOP,
+        "",
+        0,
+        "module top\nnodes 6 edges 5\nunused c\nfound 2 5\n",
+        24,
+        0,
+        ["limits 100 144 144 100000", "found 2 5", "end"],
+    ),
+];
+
+// Further words, and what is said of all words.
+const MISUSED: [(&str, &str); 11] = [
+    ("", "refused words command\n"),
+    ("draw net.v out.cert", "refused words command\n"),
+    ("net.v out.cert design", "refused words command\n"),
+    ("design net.v", "refused words usage\n"),
+    (
+        "design net.v out.cert --workers 17",
+        "refused words usage\n",
+    ),
+    ("design net.v out.cert --help", "refused words usage\n"),
+    ("design net.v net.v", "refused words same\n"),
+    (
+        "design net.v out.cert --area x",
+        "refused words number area\n",
+    ),
+    (
+        "design net.v out.cert --width 0",
+        "refused words range width\n",
+    ),
+    (
+        "design net.v out.cert --area 2 --budget 22369622",
+        "refused words work 67108866\n",
+    ),
+    (
+        "design net.v out.cert --area 144 --budget 100000",
+        "refused words work 74600000\n",
     ),
 ];
 
 // Texts that are refused, each with its line.
-const REFUSED: [(&str, &str); 18] = [
+const REFUSED: [(&str, &str); 14] = [
     ("", "refused syntax 0\n"),
     ("/*", "refused lex comment 0\n"),
     ("module m(*", "refused lex attribute 8\n"),
@@ -122,83 +245,101 @@ const REFUSED: [(&str, &str); 18] = [
         "module m(a, x, \\y[0] , z); input a; output x, \\y[0] , z; assign x = a; or (\\y[0] , a, 1'b1); buf (z, 1'b0); endmodule",
         "refused constant y[0]\n",
     ),
-    (
-        "module m(a, y); input a; output y; and (y, a, a); endmodule",
-        "refused not built\n",
-    ),
-    (
-        "module m(a, b, c, y); input a, b, c; output y; nand (y, a, b, c); endmodule",
-        "refused not built\n",
-    ),
-    (
-        "module m(a, b, y, z, w); input a, b; output y, z, w; and (n, a, b); assign y = n; assign z = n; not (w, n); endmodule",
-        "refused not built\n",
-    ),
-    (
-        "module m(a, y, z); input a; output y, z; buf (y, z, a); endmodule",
-        "refused not built\n",
-    ),
 ];
 
+// A call that fails, how much it keeps, what is told of it, the certificate, and what is said.
+const FAILING: [(u64, u64, &str, Option<&str>, &str); 13] = [
+    (1, 0, "net", None, ""),
+    (1, 1, "net", None, ""),
+    (1, 4096, "net", None, ""),
+    (2, 0, "cert", None, ""),
+    (2, 1, "cert", None, ""),
+    (2, 4096, "cert", None, ""),
+    (3, 0, "cert", Some(""), ""),
+    (3, 1, "cert", Some("b"), ""),
+    (3, 20, "cert", Some("bestagon cert 1\nlimi"), ""),
+    (3, 4096, "cert", Some(WIRE_CERT), ""),
+    (4, 0, "output", Some(WIRE_CERT), ""),
+    (4, 1, "output", Some(WIRE_CERT), "m"),
+    (4, 4096, "output", Some(WIRE_CERT), WIRE_REPORT),
+];
+
+// What a fault of the desk is about.
+fn blamed(status: &Status) -> &'static str {
+    match status {
+        Status::ReadFault(Which::NetFile) => "net",
+        Status::WriteFault(Which::CertFile) => "cert",
+        Status::WriteFault(Which::Output) => "output",
+        _ => "none",
+    }
+}
+
 #[test]
-fn each_module_has_its_report(rt: HostRuntime) -> Result<(), Fail> {
+fn each_module_has_its_report_and_certificate(rt: HostRuntime) -> Result<(), Fail> {
     let alloc = rt.alloc();
-    let design = words(alloc, "design net.v")?;
-    for (text, code, said) in ROWS {
+    for (text, options, code, said, cert) in ANSWERS {
+        let line = format!(in alloc; "design net.v out.cert {options}")?;
+        let words = words(alloc, line.as_str())?;
+        let mut desk = desk_with(alloc, text.as_bytes())?;
+        let status = run(&rt, alloc, words.as_slice(), &mut desk, &OpenGate);
+        assert_eq!(rt; status.code(), code, "{text} {options}");
+        assert!(rt; desk.said() == said.as_bytes(), "{text} {options}");
+        assert!(rt;
+            desk.file("out.cert") == Some(cert.as_bytes()),
+            "{text} {options}"
+        );
+        assert!(rt;
+            desk.file("net.v") == Some(text.as_bytes()),
+            "{text} {options}"
+        );
+    }
+    Ok(())
+}
+
+#[test]
+fn a_chain_stands_in_one_column(rt: HostRuntime) -> Result<(), Fail> {
+    let alloc = rt.alloc();
+    let design = words(alloc, "design net.v out.cert")?;
+    for (text, said) in CHAINS {
         let mut desk = desk_with(alloc, text.as_bytes())?;
         let status = run(&rt, alloc, design.as_slice(), &mut desk, &OpenGate);
-        assert_eq!(rt; status.code(), code, "{text}");
+        assert_eq!(rt; status.code(), 0, "{text}");
         assert!(rt; desk.said() == said.as_bytes(), "{text}");
-        assert!(rt; desk.file("net.v") == Some(text.as_bytes()), "{text}");
-    }
-    Ok(())
-}
-
-// The load is call 1 and the say call 2, so no call is made that isn't needed.
-#[test]
-fn a_call_that_fails_is_told(rt: HostRuntime) -> Result<(), Fail> {
-    let alloc = rt.alloc();
-    let design = words(alloc, "design net.v")?;
-    for (text, _, said) in ROWS {
-        let mut unread = desk_with(alloc, text.as_bytes())?;
-        unread.fail_at(1, 0)?;
-        let status = run(&rt, alloc, design.as_slice(), &mut unread, &OpenGate);
-        assert!(rt;
-            matches!(status, Status::ReadFault(Which::NetFile)),
-            "{text}"
-        );
-        assert_eq!(rt; unread.said().len(), 0, "{text}");
-
-        let mut unsaid = desk_with(alloc, text.as_bytes())?;
-        unsaid.fail_at(2, 3)?;
-        let status = run(&rt, alloc, design.as_slice(), &mut unsaid, &OpenGate);
-        assert!(rt;
-            matches!(status, Status::WriteFault(Which::Output)),
-            "{text}"
-        );
-        assert!(rt; said.as_bytes().starts_with(unsaid.said()), "{text}");
-        assert_eq!(rt; unsaid.said().len(), 3, "{text}");
-        assert_eq!(rt; status.code(), 4);
     }
     Ok(())
 }
 
 #[test]
-fn other_words_are_no_command(rt: HostRuntime) -> Result<(), Fail> {
+fn gates_are_laid_out(rt: HostRuntime) -> Result<(), Fail> {
     let alloc = rt.alloc();
-    for line in [
-        "",
-        "draw net.v",
-        "design",
-        "design net.v lib.json",
-        "net.v design",
-    ] {
-        let words = words(alloc, line)?;
-        let mut desk = desk_with(alloc, b"")?;
+    for (text, options, code, said, counts, clauses, lines) in GATES {
+        let line = format!(in alloc; "design net.v out.cert {options}")?;
+        let words = words(alloc, line.as_str())?;
+        let mut desk = desk_with(alloc, text.as_bytes())?;
         let status = run(&rt, alloc, words.as_slice(), &mut desk, &OpenGate);
-        assert!(rt; matches!(status, Status::Words(WordFault::Command)));
-        assert_eq!(rt; status.code(), 6);
-        assert!(rt; desk.said() == "refused words command\n".as_bytes());
+        assert_eq!(rt; status.code(), code, "{text}");
+        assert!(rt; desk.said().starts_with(said.as_bytes()), "{text}");
+        let cert = desk.file("out.cert").ok_or("no certificate")?;
+        assert_eq!(rt; lines_with(cert, "count "), counts, "{text}");
+        assert_eq!(rt; lines_with(cert, "clauses "), clauses, "{text}");
+        for line in lines {
+            assert_eq!(rt; lines_with(cert, line), 1, "{text} {line}");
+        }
+    }
+    Ok(())
+}
+
+#[test]
+fn words_that_are_misused(rt: HostRuntime) -> Result<(), Fail> {
+    let alloc = rt.alloc();
+    for (line, said) in MISUSED {
+        let words = words(alloc, line)?;
+        let mut desk = desk_with(alloc, WIRE.as_bytes())?;
+        let status = run(&rt, alloc, words.as_slice(), &mut desk, &OpenGate);
+        assert!(rt; matches!(status, Status::Words(_)), "{line}");
+        assert_eq!(rt; status.code(), 6, "{line}");
+        assert!(rt; desk.said() == said.as_bytes(), "{line}");
+        assert!(rt; desk.file("out.cert").is_none(), "{line}");
     }
     Ok(())
 }
@@ -206,25 +347,62 @@ fn other_words_are_no_command(rt: HostRuntime) -> Result<(), Fail> {
 #[test]
 fn a_refusal_says_what_is_wrong(rt: HostRuntime) -> Result<(), Fail> {
     let alloc = rt.alloc();
-    let design = words(alloc, "design net.v")?;
+    let design = words(alloc, "design net.v out.cert")?;
     for (text, said) in REFUSED {
         let mut desk = desk_with(alloc, text.as_bytes())?;
         let status = run(&rt, alloc, design.as_slice(), &mut desk, &OpenGate);
         assert_eq!(rt; status.code(), 1, "{text}");
         assert!(rt; desk.said() == said.as_bytes(), "{text}");
+        assert!(rt; desk.file("out.cert").is_none(), "{text}");
     }
+    Ok(())
+}
+
+// The calls are one load, start, append and say.
+#[test]
+fn a_call_that_fails_is_told(rt: HostRuntime) -> Result<(), Fail> {
+    let alloc = rt.alloc();
+    let design = words(alloc, "design net.v out.cert")?;
+    for (call, kept, which, cert, said) in FAILING {
+        let mut desk = desk_with(alloc, WIRE.as_bytes())?;
+        desk.fail_at(call, kept)?;
+        let status = run(&rt, alloc, design.as_slice(), &mut desk, &OpenGate);
+        assert_eq!(rt; status.code(), 4, "{call} {kept}");
+        assert_eq!(rt; blamed(&status), which, "{call} {kept}");
+        assert!(rt;
+            desk.file("out.cert") == cert.map(|text| text.as_bytes()),
+            "{call} {kept}"
+        );
+        assert!(rt; desk.said() == said.as_bytes(), "{call} {kept}");
+        assert!(rt;
+            desk.file("net.v") == Some(WIRE.as_bytes()),
+            "{call} {kept}"
+        );
+    }
+    Ok(())
+}
+
+#[test]
+fn a_certificate_without_a_place(rt: HostRuntime) -> Result<(), Fail> {
+    let alloc = rt.alloc();
+    let design = words(alloc, "design net.v other.cert")?;
+    let mut desk = desk_with(alloc, WIRE.as_bytes())?;
+    let status = run(&rt, alloc, design.as_slice(), &mut desk, &OpenGate);
+    assert_eq!(rt; blamed(&status), "cert");
+    assert!(rt; desk.file("other.cert").is_none());
+    assert_eq!(rt; desk.said().len(), 0);
     Ok(())
 }
 
 #[test]
 fn a_file_that_is_missing_or_too_long(rt: HostRuntime) -> Result<(), Fail> {
     let alloc = rt.alloc();
-    let design = words(alloc, "design net.v")?;
-    let other = words(alloc, "design other.v")?;
+    let design = words(alloc, "design net.v out.cert")?;
+    let other = words(alloc, "design other.v out.cert")?;
     let mut desk = MemDesk::new(alloc);
     desk.say_room(4096)?;
     let missing = run(&rt, alloc, other.as_slice(), &mut desk, &OpenGate);
-    assert!(rt; matches!(missing, Status::ReadFault(Which::NetFile)));
+    assert_eq!(rt; blamed(&missing), "net");
 
     let longest = vec![in alloc; 32u8; MODULE_BYTES as usize]?;
     desk.put("net.v", longest.as_slice())?;
@@ -257,15 +435,15 @@ fn chain_of_not(alloc: Global, count: u32) -> Result<String, NoMemory> {
 #[test]
 fn more_than_96_nodes_are_counted(rt: HostRuntime) -> Result<(), Fail> {
     let alloc = rt.alloc();
-    let design = words(alloc, "design net.v")?;
+    let design = words(alloc, "design net.v out.cert --area 1")?;
     for (count, said) in [
-        (94, "module m\nnodes 96 edges 95\nfound 1 96\n"),
+        (94, "module m\nnodes 96 edges 95\nnone\n"),
         (95, "refused nodes 97\n"),
     ] {
         let text = chain_of_not(alloc, count)?;
         let mut desk = desk_with(alloc, text.as_bytes())?;
         run(&rt, alloc, design.as_slice(), &mut desk, &OpenGate);
-        assert!(rt; desk.said().starts_with(said.as_bytes()), "{count}");
+        assert!(rt; desk.said() == said.as_bytes(), "{count}");
     }
     Ok(())
 }
@@ -290,18 +468,16 @@ impl Gate for Counter {
 #[test]
 fn the_gate_is_not_entered_yet(rt: HostRuntime) -> Result<(), Fail> {
     let alloc = rt.alloc();
-    let design = words(alloc, "design net.v")?;
+    let design = words(alloc, "design net.v out.cert")?;
     let gate = Counter {
         entered: AtomicU64::new(0),
         left: AtomicU64::new(0),
     };
-    for (text, code, _) in ROWS {
-        let mut desk = desk_with(alloc, text.as_bytes())?;
-        let status = run(&rt, alloc, design.as_slice(), &mut desk, &gate);
-        assert_eq!(rt; status.code(), code, "{text}");
-        assert_eq!(rt; gate.entered.load(Ordering::SeqCst), 0, "{text}");
-        assert_eq!(rt; gate.left.load(Ordering::SeqCst), 0, "{text}");
-    }
+    let mut desk = desk_with(alloc, INVERTER.as_bytes())?;
+    let status = run(&rt, alloc, design.as_slice(), &mut desk, &gate);
+    assert_eq!(rt; status.code(), 0);
+    assert_eq!(rt; gate.entered.load(Ordering::SeqCst), 0);
+    assert_eq!(rt; gate.left.load(Ordering::SeqCst), 0);
     gate.enter(3);
     gate.leave(3);
     assert_eq!(rt; gate.entered.load(Ordering::SeqCst), 1);

@@ -1,50 +1,72 @@
-use Rattle.bx_engine.proofs.Clauses.{answer_said, there, refused_only, refused, found_only, found, found_said, layout, write_fault_said, read_fault, write_fault, no_memory_stays, settled_no_fault, files_stay, started_stays, none_fell}
+use Rattle.bx_words.specs.Verbs.{texts}
+use Rattle.bx_engine.proofs.Clauses.{answered, exact, words_only, words_all, words_said, refused_only, refused, refused_said, searched_only, taken_designed, searched, found, undecided, none_within, there, settled_no_fault, read_fault, faults_rose, complete, no_memory_stays, write_fault, none_fell, others_stay}
 use Rattle.bx_engine.proofs.engine.run.Goals as goal
 
 pub returns-clause-answered : goal.returns-clause-answered
-returns-clause-answered g c = answer_said c.args.words.now (g.D.Desk.state c.args.desk.now) (g.D.Desk.state c.serve.new.desk) c.serve.result c.serve.ensures
+returns-clause-answered g c = answered (texts c.args.words.now) (g.D.Desk.state c.args.desk.now) (g.D.Desk.state c.serve.new.desk) c.serve.result c.serve.ensures
+
+pub returns-clause-exact : goal.returns-clause-exact
+returns-clause-exact g c = exact (texts c.args.words.now) (g.D.Desk.state c.args.desk.now) (g.D.Desk.state c.serve.new.desk) c.serve.result c.serve.ensures
+
+pub returns-clause-words_only : goal.returns-clause-words_only
+returns-clause-words_only g c = words_only (texts c.args.words.now) (g.D.Desk.state c.args.desk.now) (g.D.Desk.state c.serve.new.desk) c.serve.result c.serve.ensures
+
+pub returns-clause-words : goal.returns-clause-words
+returns-clause-words g c = words_all (texts c.args.words.now) (g.D.Desk.state c.args.desk.now) (g.D.Desk.state c.serve.new.desk) c.serve.result c.serve.ensures
+
+pub returns-clause-words_said : goal.returns-clause-words_said
+returns-clause-words_said g c = words_said (texts c.args.words.now) (g.D.Desk.state c.args.desk.now) (g.D.Desk.state c.serve.new.desk) c.serve.result c.serve.ensures
 
 pub returns-clause-refused_only : goal.returns-clause-refused_only
-returns-clause-refused_only g c = refused_only c.args.words.now (g.D.Desk.state c.args.desk.now) (g.D.Desk.state c.serve.new.desk) c.serve.result c.serve.ensures
+returns-clause-refused_only g c = λ fault e task text told. refused_only (texts c.args.words.now) (g.D.Desk.state c.args.desk.now) (g.D.Desk.state c.serve.new.desk) task text told c.serve.result c.serve.ensures fault e
 
 pub returns-clause-refused : goal.returns-clause-refused
-returns-clause-refused g c = refused c.args.words.now (g.D.Desk.state c.args.desk.now) (g.D.Desk.state c.serve.new.desk) c.serve.result c.serve.ensures
+returns-clause-refused g c = λ settled task text told fault h. refused (texts c.args.words.now) (g.D.Desk.state c.args.desk.now) (g.D.Desk.state c.serve.new.desk) task text told c.serve.result c.serve.ensures settled fault h
 
-pub returns-clause-found_only : goal.returns-clause-found_only
-returns-clause-found_only g c = found_only c.args.words.now (g.D.Desk.state c.args.desk.now) (g.D.Desk.state c.serve.new.desk) c.serve.result c.serve.ensures
+pub returns-clause-refused_said : goal.returns-clause-refused_said
+returns-clause-refused_said g c = refused_said (texts c.args.words.now) (g.D.Desk.state c.args.desk.now) (g.D.Desk.state c.serve.new.desk) c.serve.result c.serve.ensures
+
+pub returns-clause-searched_only : goal.returns-clause-searched_only
+returns-clause-searched_only g c = λ is task text told. searched_only (texts c.args.words.now) (g.D.Desk.state c.args.desk.now) (g.D.Desk.state c.serve.new.desk) task text told c.serve.result c.serve.ensures is
+
+pub returns-clause-taken : goal.returns-clause-taken
+returns-clause-taken g c = λ settled task text told. taken_designed (texts c.args.words.now) (g.D.Desk.state c.args.desk.now) (g.D.Desk.state c.serve.new.desk) task text told c.serve.result c.serve.ensures settled
+
+pub returns-clause-searched : goal.returns-clause-searched
+returns-clause-searched g c = λ settled task text told. searched (texts c.args.words.now) (g.D.Desk.state c.args.desk.now) (g.D.Desk.state c.serve.new.desk) task text told c.serve.result c.serve.ensures settled
 
 pub returns-clause-found : goal.returns-clause-found
-returns-clause-found g c = found c.args.words.now (g.D.Desk.state c.args.desk.now) (g.D.Desk.state c.serve.new.desk) c.serve.result c.serve.ensures
+returns-clause-found g c = λ ratio e task text told m taken. found (texts c.args.words.now) (g.D.Desk.state c.args.desk.now) (g.D.Desk.state c.serve.new.desk) task text told m taken c.serve.result c.serve.ensures ratio e
 
-pub returns-clause-found_said : goal.returns-clause-found_said
-returns-clause-found_said g c = found_said c.args.words.now (g.D.Desk.state c.args.desk.now) (g.D.Desk.state c.serve.new.desk) c.serve.result c.serve.ensures
+pub returns-clause-undecided : goal.returns-clause-undecided
+returns-clause-undecided g c = λ ratio spent e task text told m taken. undecided (texts c.args.words.now) (g.D.Desk.state c.args.desk.now) (g.D.Desk.state c.serve.new.desk) task text told m taken c.serve.result c.serve.ensures ratio spent e
 
-pub returns-clause-layout : goal.returns-clause-layout
-returns-clause-layout g c = layout c.args.words.now (g.D.Desk.state c.args.desk.now) (g.D.Desk.state c.serve.new.desk) c.serve.result c.serve.ensures
-
-pub returns-clause-write_fault_said : goal.returns-clause-write_fault_said
-returns-clause-write_fault_said g c = write_fault_said c.args.words.now (g.D.Desk.state c.args.desk.now) (g.D.Desk.state c.serve.new.desk) c.serve.result c.serve.ensures
+pub returns-clause-none_within : goal.returns-clause-none_within
+returns-clause-none_within g c = λ e task text told m taken. none_within (texts c.args.words.now) (g.D.Desk.state c.args.desk.now) (g.D.Desk.state c.serve.new.desk) task text told m taken c.serve.result c.serve.ensures e
 
 pub returns-clause-there : goal.returns-clause-there
-returns-clause-there g c = there c.args.words.now (g.D.Desk.state c.args.desk.now) (g.D.Desk.state c.serve.new.desk) c.serve.result c.serve.ensures
-
-pub returns-clause-read_fault : goal.returns-clause-read_fault
-returns-clause-read_fault g c = read_fault c.args.words.now (g.D.Desk.state c.args.desk.now) (g.D.Desk.state c.serve.new.desk) c.serve.result c.serve.ensures
-
-pub returns-clause-write_fault : goal.returns-clause-write_fault
-returns-clause-write_fault g c = write_fault c.args.words.now (g.D.Desk.state c.args.desk.now) (g.D.Desk.state c.serve.new.desk) c.serve.result c.serve.ensures
-
-pub returns-clause-no_memory_stays : goal.returns-clause-no_memory_stays
-returns-clause-no_memory_stays g c = no_memory_stays c.args.words.now (g.D.Desk.state c.args.desk.now) (g.D.Desk.state c.serve.new.desk) c.serve.result c.serve.ensures
+returns-clause-there g c = there (texts c.args.words.now) (g.D.Desk.state c.args.desk.now) (g.D.Desk.state c.serve.new.desk) c.serve.result c.serve.ensures
 
 pub returns-clause-settled_no_fault : goal.returns-clause-settled_no_fault
-returns-clause-settled_no_fault g c = settled_no_fault c.args.words.now (g.D.Desk.state c.args.desk.now) (g.D.Desk.state c.serve.new.desk) c.serve.result c.serve.ensures
+returns-clause-settled_no_fault g c = settled_no_fault (texts c.args.words.now) (g.D.Desk.state c.args.desk.now) (g.D.Desk.state c.serve.new.desk) c.serve.result c.serve.ensures
 
-pub returns-clause-files_stay : goal.returns-clause-files_stay
-returns-clause-files_stay g c = files_stay c.args.words.now (g.D.Desk.state c.args.desk.now) (g.D.Desk.state c.serve.new.desk) c.serve.result c.serve.ensures
+pub returns-clause-read_fault : goal.returns-clause-read_fault
+returns-clause-read_fault g c = read_fault (texts c.args.words.now) (g.D.Desk.state c.args.desk.now) (g.D.Desk.state c.serve.new.desk) c.serve.result c.serve.ensures
 
-pub returns-clause-started_stays : goal.returns-clause-started_stays
-returns-clause-started_stays g c = started_stays c.args.words.now (g.D.Desk.state c.args.desk.now) (g.D.Desk.state c.serve.new.desk) c.serve.result c.serve.ensures
+pub returns-clause-faults_rose : goal.returns-clause-faults_rose
+returns-clause-faults_rose g c = faults_rose (texts c.args.words.now) (g.D.Desk.state c.args.desk.now) (g.D.Desk.state c.serve.new.desk) c.serve.result c.serve.ensures
+
+pub returns-clause-complete : goal.returns-clause-complete
+returns-clause-complete g c = complete (texts c.args.words.now) (g.D.Desk.state c.args.desk.now) (g.D.Desk.state c.serve.new.desk) c.serve.result c.serve.ensures
+
+pub returns-clause-no_memory_stays : goal.returns-clause-no_memory_stays
+returns-clause-no_memory_stays g c = no_memory_stays (texts c.args.words.now) (g.D.Desk.state c.args.desk.now) (g.D.Desk.state c.serve.new.desk) c.serve.result c.serve.ensures
+
+pub returns-clause-write_fault : goal.returns-clause-write_fault
+returns-clause-write_fault g c = write_fault (texts c.args.words.now) (g.D.Desk.state c.args.desk.now) (g.D.Desk.state c.serve.new.desk) c.serve.result c.serve.ensures
 
 pub returns-clause-none_fell : goal.returns-clause-none_fell
-returns-clause-none_fell g c = none_fell c.args.words.now (g.D.Desk.state c.args.desk.now) (g.D.Desk.state c.serve.new.desk) c.serve.result c.serve.ensures
+returns-clause-none_fell g c = none_fell (texts c.args.words.now) (g.D.Desk.state c.args.desk.now) (g.D.Desk.state c.serve.new.desk) c.serve.result c.serve.ensures
+
+pub returns-clause-others_stay : goal.returns-clause-others_stay
+returns-clause-others_stay g c = others_stay (texts c.args.words.now) (g.D.Desk.state c.args.desk.now) (g.D.Desk.state c.serve.new.desk) c.serve.result c.serve.ensures

@@ -1,0 +1,4 @@
+pub mod Places
+pub mod GridDots
+pub mod Cuts
+pub mod Reading

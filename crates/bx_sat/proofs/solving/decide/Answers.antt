@@ -1,0 +1,22 @@
+use Rattle.std.proofs.Common.{◌≡◌, ◌+◌, ◌≤◌, ◌-◌, min, length, subst, refl, arith}
+use Rattle.bx_search.specs.Searching.{IsSearch}
+use Rattle.bx_search.specs.declared.outcome.Outcome.TheVariants.{Sat, Unsat, Undecided}
+use Rattle.bx_sat.specs.Findings.{used}
+use Rattle.bx_sat.proofs.Stopping.{never_stops}
+use Rattle.bx_check.proofs.Sound.{accepted_sound}
+use Rattle.bx_sat.proofs.solving.decide.Goals as goal
+
+pub returns-in-Sat-clause-found : goal.returns-in-Sat-clause-found
+returns-in-Sat-clause-found c = c.in_ok-bits.ensures.solved c.in-Sat.bits c.in-Sat.is
+
+pub returns-in-Unsat-clause-found : goal.returns-in-Unsat-clause-found
+returns-in-Unsat-clause-found c = c.in_ok-bits.ensures.accepted c.in-Unsat.steps c.in-Unsat.is
+
+pub returns-in-Unsat-clause-refuted : goal.returns-in-Unsat-clause-refuted
+returns-in-Unsat-clause-refuted c log _ bits all = accepted_sound c.args.clauses.now c.in-Unsat.steps bits (c.in_ok-bits.ensures.accepted c.in-Unsat.steps c.in-Unsat.is) all
+
+pub unreachable-requires : goal.unreachable-requires
+unreachable-requires c =
+    let few : c.min.result ≤ 4294967295 = omega (arith, c.min.ensures, c.from-most.ensures) in
+    never_stops c.args.clauses.now c.min.result c.new-pulse.result c.solve.new.pulse c.len.ensures.formed few c.new-pulse.ensures
+    (c.in_ok-bits.ensures.stopped c.in-Stopped.is) c.in_ok-bits.ensures.leads c.in_ok-bits.ensures.at_most

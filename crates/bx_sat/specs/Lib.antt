@@ -1,0 +1,5 @@
+pub mod Statuses
+pub mod Verdicts
+pub mod Findings
+pub mod Sayings
+pub mod Answers

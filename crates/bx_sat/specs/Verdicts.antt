@@ -1,0 +1,22 @@
+-- What a proof that was read is for a formula.
+use Rattle.std.specs.Prelude.{◌≡◌, ℕ, ◌⊎◌, List, Option, Some, None, slice_get}
+use Rattle.bx_cnf.specs.Formulas.{Formula}
+use Rattle.bx_proof.specs.Steps.{Step}
+use Rattle.bx_proof.specs.Accepted.{IsAccepted}
+use Rattle.bx_check.specs.Passing.{AllPass, IsFirstFailure}
+use Rattle.bx_dimacs.specs.declared.proof.LratProof.{LratProof}
+use Rattle.bx_sat.specs.declared.checking.Verdict.{Verdict}
+use Rattle.bx_sat.specs.declared.checking.Verdict.TheVariants.{Verified, Fails, Open}
+
+-- the first step that fails has this id, the file's own: it is the first that doesn't pass, or, where all pass, the
+-- one behind them which can't pass whatever it says
+abbrev pub IsFailure : Formula → LratProof → ℕ → Type 0
+IsFailure formula proof id =
+    ((k : ℕ) × IsFirstFailure formula proof.steps.steps k × (slice_get proof.ids.items k ≡ Some id))
+    ⊎ (AllPass formula proof.steps.steps × (proof.ill ≡ Some id))
+
+-- the steps are accepted, or one fails first, or all pass and there is no other
+abbrev pub IsVerdict : Formula → LratProof → Verdict → Type 0
+IsVerdict formula proof Verified = IsAccepted formula proof.steps
+IsVerdict formula proof (Fails id) = IsFailure formula proof id
+IsVerdict formula proof Open = AllPass formula proof.steps.steps × (proof.ill ≡ None)

@@ -1,0 +1,57 @@
+//! Whether a proof that was read shows that a formula has no solution, or which of its steps fails first.
+ghost use Rattle.std.specs.Prelude.{◌≡◌, ◌≢◌, ◌+◌, List, Bool, length, IfOk};
+ghost use Rattle.bx_cnf.specs.Formulas.{AllTrue};
+ghost use Rattle.bx_proof.specs.Accepted.{IsAccepted};
+ghost use Rattle.bx_sat.specs.Verdicts.{IsVerdict};
+
+use bx_check::{check, first_failure};
+use bx_cnf::Clauses;
+use bx_dimacs::LratProof;
+use bx_logic::NoMemory;
+use std::alloc::Global;
+
+/// What a proof is.
+#[derive(Clone, Copy, Debug, PartialEq, Eq)]
+pub enum Verdict {
+    /// Its steps are accepted.
+    Verified,
+    /// The step of this id, the file's own, is the first that fails.
+    Fails(u64),
+    /// All steps pass, and none is empty.
+    Open,
+}
+
+/// Whether a proof is accepted for a formula, or which step fails first. Where it is verified, no bits
+/// make all clauses true.
+///
+/// # Errors
+///
+/// `NoMemory`.
+pub fn verify(alloc: Global, clauses: &Clauses, proof: &LratProof) -> Result<Verdict, NoMemory>
+    requires numbered { proof.now.steps.first ≡ length clauses.now.clauses + 1 }
+    requires named { length proof.now.ids.items ≡ length proof.now.steps.steps }
+    ensures verdict { IfOk result (IsVerdict clauses.now proof.now) }
+    ensures verified { IfOk result (λ verdict. IsAccepted clauses.now proof.now.steps → verdict ≡ Verdict.Verified) }
+    ensures sound { IfOk result (λ verdict. verdict ≡ Verdict.Verified → (bits : List Bool) → AllTrue bits clauses.now.clauses → ⊥) }
+{
+    if check(alloc, clauses, &proof.steps)? {
+        return Ok(Verdict::Verified);
+    }
+    failure_of(alloc, clauses, proof)
+}
+
+// Which step fails first, of a proof that isn't accepted.
+fn failure_of(alloc: Global, clauses: &Clauses, proof: &LratProof) -> Result<Verdict, NoMemory>
+    requires numbered { proof.now.steps.first ≡ length clauses.now.clauses + 1 }
+    requires named { length proof.now.ids.items ≡ length proof.now.steps.steps }
+    ensures verdict { IfOk result (IsVerdict clauses.now proof.now) }
+    ensures not_verified { IfOk result (λ verdict. verdict ≢ Verdict.Verified) }
+{
+    if let Some(k) = first_failure(alloc, clauses, &proof.steps)? {
+        return Ok(Verdict::Fails(proof.ids[k as usize]));
+    }
+    match proof.ill {
+        Some(id) => Ok(Verdict::Fails(id)),
+        None => Ok(Verdict::Open),
+    }
+}

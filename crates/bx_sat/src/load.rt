@@ -1,0 +1,64 @@
+//! Reading the two files of a run.
+
+ghost use Rattle.std.specs.Prelude.{◌≡◌, ◌+◌, ◌≤◌, length, IfOk};
+
+use bx_cnf::Clauses;
+use bx_desk::{Desk, LoadFault};
+use bx_dimacs::{DimacsFormula, FormulaFault, LratProof, ProofFault, read_formula, read_proof};
+use std::alloc::Global;
+
+// The longest file that is read, in bytes: 64 GiB.
+const LONGEST: u64 = 68_719_476_736;
+
+/// Why a file wasn't read.
+#[derive(Clone, Copy, Debug, PartialEq, Eq)]
+pub(crate) enum Unread {
+    /// Its first line that can't be read.
+    BadLine(u64),
+    /// The desk couldn't read it, or it is too long.
+    Failed,
+    /// Memory was refused.
+    NoMemory,
+}
+
+/// The formula of a file.
+pub(crate) fn load_formula<D: Desk>(
+    alloc: Global,
+    name: &str,
+    desk: &mut D,
+) -> Result<DimacsFormula, Unread>
+    ensures { IfOk result (λ formula. formula.vars ≤ formula.clauses.vars) }
+{
+    let text = load(alloc, name, desk)?;
+    read_formula(alloc, &text).map_err(|fault| match fault {
+        FormulaFault::BadLine(line) => Unread::BadLine(line),
+        FormulaFault::NoMemory => Unread::NoMemory,
+    })
+}
+
+/// The proof of a file, for a formula.
+pub(crate) fn load_proof<D: Desk>(
+    alloc: Global,
+    clauses: &Clauses,
+    name: &str,
+    desk: &mut D,
+) -> Result<LratProof, Unread>
+    ensures numbered { IfOk result (λ proof. proof.steps.first ≡ length clauses.now.clauses + 1) }
+    ensures named { IfOk result (λ proof. length proof.ids.items ≡ length proof.steps.steps) }
+{
+    let text = load(alloc, name, desk)?;
+    read_proof(alloc, clauses, &text).map_err(|fault| match fault {
+        ProofFault::BadLine(line) => Unread::BadLine(line),
+        ProofFault::NoMemory => Unread::NoMemory,
+    })
+}
+
+// The bytes of a file.
+fn load<D: Desk>(alloc: Global, name: &str, desk: &mut D) -> Result<Vec<u8>, Unread> {
+    let mut text = Vec::new(alloc);
+    match desk.load(name, LONGEST, &mut text) {
+        Ok(()) => Ok(text),
+        Err(LoadFault::Failed | LoadFault::TooLong) => Err(Unread::Failed),
+        Err(LoadFault::NoMemory) => Err(Unread::NoMemory),
+    }
+}

@@ -1,0 +1,95 @@
+//! The one call that the program makes: from its words to what is said, and a status.
+
+ghost use Rattle.std.specs.Prelude.{◌<◌, length, OnOk};
+ghost use Rattle.bx_desk.specs.Desk.{DeskState, Starts, Writes};
+ghost use Rattle.bx_proof.specs.Texts.{log_text};
+
+use crate::checking::verify;
+use crate::command::Command;
+use crate::load::{Unread, load_formula, load_proof};
+use crate::say::{say, say_answer, say_bad_line, say_verdict};
+use crate::solving::{Answer, decide};
+use crate::status::SatStatus;
+use bx_desk::{Desk, Failed, Piece};
+use bx_logic::NoMemory;
+use bx_proof::{Steps, write_steps};
+use std::alloc::Global;
+
+// What is said where the words are no command.
+const USAGE: &[u8] = b"the words are check FORMULA PROOF or solve FORMULA BUDGET [PROOF]\n";
+
+/// Runs the command of the words: `check FORMULA PROOF` checks a proof, and `solve FORMULA BUDGET [PROOF]`
+/// solves a formula, and writes the proof where it has no solution.
+pub fn run_sat<D: Desk>(alloc: Global, words: &[String], desk: &mut D) -> SatStatus {
+    match Command::of_words(words) {
+        Some(Command::Check { formula, proof }) => check_files(alloc, formula, proof, desk),
+        Some(
+            Command::Solve {
+                formula,
+                budget,
+                proof,
+            },
+        ) => solve_file(alloc, formula, budget, proof, desk),
+        None => say(USAGE, SatStatus::Words, desk),
+    }
+}
+
+// Checks the proof of a formula.
+fn check_files<D: Desk>(alloc: Global, formula: &str, proof: &str, desk: &mut D) -> SatStatus {
+    let read = match load_formula(alloc, formula, desk) {
+        Ok(read) => read,
+        Err(fault) => return say_unread(formula, fault, desk),
+    };
+    let steps = match load_proof(alloc, &read.clauses, proof, desk) {
+        Ok(steps) => steps,
+        Err(fault) => return say_unread(proof, fault, desk),
+    };
+    match verify(alloc, &read.clauses, &steps) {
+        Ok(verdict) => say_verdict(verdict, desk),
+        Err(NoMemory) => SatStatus::NoMemory,
+    }
+}
+
+// Solves a formula, and writes the proof where it has no solution and there is a file for it.
+fn solve_file<D: Desk>(
+    alloc: Global,
+    formula: &str,
+    budget: u64,
+    proof: Option<&str>,
+    desk: &mut D,
+) -> SatStatus {
+    let read = match load_formula(alloc, formula, desk) {
+        Ok(read) => read,
+        Err(fault) => return say_unread(formula, fault, desk),
+    };
+    let answer = match decide(alloc, &read.clauses, budget) {
+        Ok(answer) => answer,
+        Err(NoMemory) => return SatStatus::NoMemory,
+    };
+    if let (Answer::Unsatisfiable(steps), Some(name)) = (&answer, proof) {
+        if write_proof(steps, name, desk).is_err() {
+            return SatStatus::Failed;
+        }
+    }
+    say_answer(&answer, read.vars, desk)
+}
+
+// Writes steps, of which there is one at least, into a file.
+fn write_proof<D: Desk>(steps: &Steps, name: &str, desk: &mut D) -> Result<(), Failed>
+    requires { 0 < length steps.now.steps }
+    ensures { OnOk result ((mid : DeskState) × Starts (D.state desk.old) mid name.now × Writes mid (D.state desk.new) (log_text steps.now)) }
+{
+    desk.start(name)?;
+    let mut piece = Piece::to_file();
+    write_steps(steps, &mut piece, desk)?;
+    piece.end(desk)
+}
+
+// Says why a file wasn't read.
+fn say_unread<D: Desk>(name: &str, fault: Unread, desk: &mut D) -> SatStatus {
+    match fault {
+        Unread::BadLine(line) => say_bad_line(name, line, desk),
+        Unread::Failed => SatStatus::Failed,
+        Unread::NoMemory => SatStatus::NoMemory,
+    }
+}

@@ -1,6 +1,6 @@
-# Sourced by ./bestagon and .ci/run, which set `top`, the repository's folder. It says where the
-# built program is kept, and which sources it was built from: the stamp stands in its name, so a
-# program and its stamp come into being by one rename, and no call can see one without the other.
+# Sourced by ./bestagon, ./bestagon-sat and .ci/run, which set `top`, the repository's folder. It says where a
+# built program is kept, under the name of its crate, and which sources it was built from: the stamp stands in
+# its name, so a program and its stamp come into being by one rename, and no call can see one without the other.
 
 # The line that names the toolchain.
 toolchain_line() {
@@ -19,52 +19,54 @@ sources_stamp() (
     } | sha256sum | cut -d ' ' -f 1
 )
 
-# Where the program of these sources is kept.
+# Where the program of these sources is kept, which this crate is.
 program_of() {
-    printf '%s\n' "$top/out/bestagon-$1"
+    local stamp=$1 crate=$2
+    printf '%s\n' "$top/out/$crate-$stamp"
 }
 
 # Keeps the program that rt has just built from the sources of this stamp.
 keep_program() {
-    local stamp=$1 kept
-    kept=$(program_of "$stamp")
+    local stamp=$1 crate=$2 kept
+    kept=$(program_of "$stamp" "$crate")
     if [[ $(sources_stamp) != "$stamp" ]]; then
         echo "bestagon: the sources have changed meanwhile; run it again" >&2
         return 1
     fi
     mkdir -p "$top/out" &&
-        cp "$top/crates/bestagon_cli/out/bestagon_cli" "$kept.$$" &&
+        cp "$top/crates/$crate/out/$crate" "$kept.$$" &&
         mv -f "$kept.$$" "$kept" || return
-    find "$top/out" -name 'bestagon-*' -mtime +7 -delete
+    find "$top/out" -name "$crate-*" -mtime +7 -delete
 }
 
-# Proves and builds the program of the sources as they stand. Of several calls one builds, and the
-# others wait for it. rt proves one crate after the other, lowest first, on as many processors as gain
-# by it.
+# Proves and builds the program of the sources as they stand, and runs it in its crate's folder on the further
+# words, on which it ends with status 0. Of several calls one builds, and the others wait for it. rt proves one
+# crate after the other, lowest first, on as many processors as gain by it.
 build_program() {
-    local stamp=$1 log=$top/out/build.log builder
+    local stamp=$1 crate=$2 log=$top/out/build.log builder
+    shift 2
     mkdir -p "$top/out" || return
     tell "proving and building the program, once for these sources; it takes minutes; log: $log"
     (
         flock 9
-        [[ -x $(program_of "$stamp") ]] && exit
-        cd "$top/crates/bestagon_cli" || exit
-        (trap - INT QUIT && exec rt run -- design data/net.v) >"$log" 2>&1 </dev/null 9>&- &
+        [[ -x $(program_of "$stamp" "$crate") ]] && exit
+        cd "$top/crates/$crate" || exit
+        (trap - INT QUIT && exec rt run -- "$@") >"$log" 2>&1 </dev/null 9>&- &
         builder=$!
         trap 'kill "$builder"' TERM HUP
-        tell_progress "$builder" "$log"
+        tell_progress "$crate" "$builder" "$log"
         if ! wait "$builder"; then
             echo "bestagon: it could not be built; the log says why" >&2
             exit 1
         fi
-        keep_program "$stamp" && tell "built in $(minutes "$SECONDS")"
+        keep_program "$stamp" "$crate" && tell "built in $(minutes "$SECONDS")"
     ) 9>>"$top/out/lock"
 }
 
 # Tells which crate of how many rt is at, when it begins one, and each minute that it takes.
 tell_progress() {
-    local builder=$1 log=$2 crates at='' now said=$SECONDS
-    mapfile -t crates < <(crates_of_program)
+    local builder=$2 log=$3 crates at='' now said=$SECONDS
+    mapfile -t crates < <(crates_of_program "$1")
     while kill -0 "$builder" 2>/dev/null; do
         now=$(sed -n 's/^rt: chose --jobs [0-9]* for //p' "$log" | tail -n 1)
         if [[ $now != "$at" ]] || (( SECONDS - said >= 60 )); then
@@ -75,12 +77,12 @@ tell_progress() {
     done
 }
 
-# The crates that the program is made of, lowest first, as crates.txt has them.
+# The crates that a program's crate is made of, lowest first, as crates.txt has them.
 crates_of_program() {
-    awk '
+    awk -v program="$1" '
         /^[^#]/ { sub(/:/, " "); name = $1; order[++count] = name; below[name] = $0 }
         END {
-            wanted["bestagon_cli"] = 1
+            wanted[program] = 1
             for (i = count; i > 0; i--)
                 if (order[i] in wanted) {
                     words = split(below[order[i]], word)

@@ -1,5 +1,5 @@
 -- What is found of a formula.
-use Rattle.std.specs.Prelude.{◌≡◌, ℕ, ◌-◌, min, List, length, ⊤}
+use Rattle.std.specs.Prelude.{◌≡◌, ℕ, ◌-◌, min, length, ⊤}
 use Rattle.bx_cnf.specs.Formulas.{Formula, AllTrue}
 use Rattle.bx_proof.specs.Accepted.{IsAccepted}
 use Rattle.bx_search.specs.Searching.{IsSearch}

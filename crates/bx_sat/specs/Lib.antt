@@ -3,3 +3,4 @@ pub mod Verdicts
 pub mod Findings
 pub mod Sayings
 pub mod Answers
+pub mod Runs

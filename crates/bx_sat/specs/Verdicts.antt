@@ -1,7 +1,6 @@
 -- What a proof that was read is for a formula.
-use Rattle.std.specs.Prelude.{◌≡◌, ℕ, ◌⊎◌, List, Option, Some, None, slice_get}
+use Rattle.std.specs.Prelude.{◌≡◌, ℕ, ◌⊎◌, Some, None, slice_get}
 use Rattle.bx_cnf.specs.Formulas.{Formula}
-use Rattle.bx_proof.specs.Steps.{Step}
 use Rattle.bx_proof.specs.Accepted.{IsAccepted}
 use Rattle.bx_check.specs.Passing.{AllPass, IsFirstFailure}
 use Rattle.bx_dimacs.specs.declared.proof.LratProof.{LratProof}

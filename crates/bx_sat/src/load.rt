@@ -1,6 +1,6 @@
 //! Reading the two files of a run.
 
-ghost use Rattle.std.specs.Prelude.{◌≡◌, ◌+◌, ◌≤◌, length, IfOk};
+ghost use Rattle.std.specs.Prelude.{◌≡◌, ◌≢◌, ◌+◌, ◌≤◌, ℕ, length, Err, IfOk, OnOk};
 
 use bx_cnf::Clauses;
 use bx_desk::{Desk, LoadFault};
@@ -27,7 +27,9 @@ pub(crate) fn load_formula<D: Desk>(
     name: &str,
     desk: &mut D,
 ) -> Result<DimacsFormula, Unread>
-    ensures { IfOk result (λ formula. formula.vars ≤ formula.clauses.vars) }
+    ensures declared { IfOk result (λ formula. formula.vars ≤ formula.clauses.vars) }
+    ensures ok_stays { OnOk result (D.state desk.new ≡ D.state desk.old) }
+    ensures bad_stays { (line : ℕ) → result ≡ Err (Unread.BadLine line) → D.state desk.new ≡ D.state desk.old }
 {
     let text = load(alloc, name, desk)?;
     read_formula(alloc, &text).map_err(|fault| match fault {
@@ -45,6 +47,8 @@ pub(crate) fn load_proof<D: Desk>(
 ) -> Result<LratProof, Unread>
     ensures numbered { IfOk result (λ proof. proof.steps.first ≡ length clauses.now.clauses + 1) }
     ensures named { IfOk result (λ proof. length proof.ids.items ≡ length proof.steps.steps) }
+    ensures ok_stays { OnOk result (D.state desk.new ≡ D.state desk.old) }
+    ensures bad_stays { (line : ℕ) → result ≡ Err (Unread.BadLine line) → D.state desk.new ≡ D.state desk.old }
 {
     let text = load(alloc, name, desk)?;
     read_proof(alloc, clauses, &text).map_err(|fault| match fault {
@@ -54,7 +58,10 @@ pub(crate) fn load_proof<D: Desk>(
 }
 
 // The bytes of a file.
-fn load<D: Desk>(alloc: Global, name: &str, desk: &mut D) -> Result<Vec<u8>, Unread> {
+fn load<D: Desk>(alloc: Global, name: &str, desk: &mut D) -> Result<Vec<u8>, Unread>
+    ensures ok_stays { OnOk result (D.state desk.new ≡ D.state desk.old) }
+    ensures no_line { (line : ℕ) → result ≢ Err (Unread.BadLine line) }
+{
     let mut text = Vec::new(alloc);
     match desk.load(name, LONGEST, &mut text) {
         Ok(()) => Ok(text),

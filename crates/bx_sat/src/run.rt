@@ -1,8 +1,9 @@
 //! The one call that the program makes: from its words to what is said, and a status.
 
-ghost use Rattle.std.specs.Prelude.{◌<◌, length, OnOk};
+ghost use Rattle.std.specs.Prelude.{◌≡◌, ◌<◌, ℕ, length, OnOk};
 ghost use Rattle.bx_desk.specs.Desk.{DeskState, Starts, Writes};
 ghost use Rattle.bx_proof.specs.Texts.{log_text};
+ghost use Rattle.bx_sat.specs.Runs.{EndsRun};
 
 use crate::checking::verify;
 use crate::command::Command;
@@ -20,7 +21,9 @@ const USAGE: &[u8] = b"the words are check FORMULA PROOF or solve FORMULA BUDGET
 
 /// Runs the command of the words: `check FORMULA PROOF` checks a proof, and `solve FORMULA BUDGET [PROOF]`
 /// solves a formula, and writes the proof where it has no solution.
-pub fn run_sat<D: Desk>(alloc: Global, words: &[String], desk: &mut D) -> SatStatus {
+pub fn run_sat<D: Desk>(alloc: Global, words: &[String], desk: &mut D) -> SatStatus
+    ensures { EndsRun (D.state desk.old) (D.state desk.new) result }
+{
     match Command::of_words(words) {
         Some(Command::Check { formula, proof }) => check_files(alloc, formula, proof, desk),
         Some(
@@ -35,7 +38,9 @@ pub fn run_sat<D: Desk>(alloc: Global, words: &[String], desk: &mut D) -> SatSta
 }
 
 // Checks the proof of a formula.
-fn check_files<D: Desk>(alloc: Global, formula: &str, proof: &str, desk: &mut D) -> SatStatus {
+fn check_files<D: Desk>(alloc: Global, formula: &str, proof: &str, desk: &mut D) -> SatStatus
+    ensures { EndsRun (D.state desk.old) (D.state desk.new) result }
+{
     let read = match load_formula(alloc, formula, desk) {
         Ok(read) => read,
         Err(fault) => return say_unread(formula, fault, desk),
@@ -57,7 +62,9 @@ fn solve_file<D: Desk>(
     budget: u64,
     proof: Option<&str>,
     desk: &mut D,
-) -> SatStatus {
+) -> SatStatus
+    ensures { EndsRun (D.state desk.old) (D.state desk.new) result }
+{
     let read = match load_formula(alloc, formula, desk) {
         Ok(read) => read,
         Err(fault) => return say_unread(formula, fault, desk),
@@ -77,7 +84,8 @@ fn solve_file<D: Desk>(
 // Writes steps, of which there is one at least, into a file.
 fn write_proof<D: Desk>(steps: &Steps, name: &str, desk: &mut D) -> Result<(), Failed>
     requires { 0 < length steps.now.steps }
-    ensures { OnOk result ((mid : DeskState) × Starts (D.state desk.old) mid name.now × Writes mid (D.state desk.new) (log_text steps.now)) }
+    ensures written { OnOk result ((mid : DeskState) × Starts (D.state desk.old) mid name.now × Writes mid (D.state desk.new) (log_text steps.now)) }
+    ensures unsaid { (D.state desk.new).said ≡ (D.state desk.old).said }
 {
     desk.start(name)?;
     let mut piece = Piece::to_file();
@@ -86,7 +94,9 @@ fn write_proof<D: Desk>(steps: &Steps, name: &str, desk: &mut D) -> Result<(), F
 }
 
 // Says why a file wasn't read.
-fn say_unread<D: Desk>(name: &str, fault: Unread, desk: &mut D) -> SatStatus {
+fn say_unread<D: Desk>(name: &str, fault: Unread, desk: &mut D) -> SatStatus
+    ensures { (old : DeskState) → ((line : ℕ) → fault ≡ Unread.BadLine line → D.state desk.old ≡ old) → EndsRun old (D.state desk.new) result }
+{
     match fault {
         Unread::BadLine(line) => say_bad_line(name, line, desk),
         Unread::Failed => SatStatus::Failed,

@@ -1,7 +1,5 @@
-use Rattle.std.proofs.Common.{◌≡◌, ◌<◌, length, Some, refl, sym, ◌∙◌, inl, inr, arith}
+use Rattle.std.proofs.Common.{◌<◌, length, refl, inl, inr, arith}
 use Rattle.std.proofs.lemmas.Option.{slice_get_within, slice_get_read}
-use Rattle.std.specs.Prelude.{slice_get}
-use Rattle.bx_check.specs.Passing.{IsFirstFailure}
 use Rattle.bx_sat.proofs.checking.failure_of.Goals as goal
 
 pub index-requires : goal.index-requires

@@ -1,7 +1,4 @@
-use Rattle.std.proofs.Common.{◌≡◌, ◌+◌, ◌≤◌, ◌-◌, min, length, subst, refl, arith}
-use Rattle.bx_search.specs.Searching.{IsSearch}
-use Rattle.bx_search.specs.declared.outcome.Outcome.TheVariants.{Sat, Unsat, Undecided}
-use Rattle.bx_sat.specs.Findings.{used}
+use Rattle.std.proofs.Common.{◌≤◌, arith}
 use Rattle.bx_sat.proofs.Stopping.{never_stops}
 use Rattle.bx_check.proofs.Sound.{accepted_sound}
 use Rattle.bx_sat.proofs.solving.decide.Goals as goal

@@ -114,16 +114,22 @@ pub adds-each-as : (f : ℕ → List Clause) (a b c : Formula) (i : ℕ) (xs : L
 adds-each-as f a b c i xs is before step = adds-each f a b c i before (subst (Adds b c) is step)
 
 -- a list that is made number by number is whole when all numbers are through
-pub adds-all : (F : ℕ → List Clause) (a b : Formula) (k n m : ℕ) → k ≤ n → n ≤ k → n ≡ m → Adds a b (F k) → Adds a b (F m)
+adds-all : (F : ℕ → List Clause) (a b : Formula) (k n m : ℕ) → k ≤ n → n ≤ k → n ≡ m → Adds a b (F k) → Adds a b (F m)
 adds-all F a b k n m low high same adds = let e : k ≡ m = omega arith in subst (λ j. Adds a b (F j)) e adds
+
+pub each-done : (f : ℕ → List Clause) (a b : Formula) (k n m : ℕ) → k ≤ n → n ≤ k → n ≡ m → Adds a b (flat_map f (range_with_len 0 k)) → Adds a b (flat_map f (range_with_len 0 m))
+each-done f = adds-all (λ k. flat_map f (range_with_len 0 k))
+
+pub map-done : (f : ℕ → Clause) (a b : Formula) (k n m : ℕ) → k ≤ n → n ≤ k → n ≡ m → Adds a b (map f (range_with_len 0 k)) → Adds a b (map f (range_with_len 0 m))
+map-done f = adds-all (λ k. map f (range_with_len 0 k))
 
 -- a clause as it was written
 pub clause-as : (vars now : ℕ) (xs ys : Clause) → now ≡ vars → xs ≡ ys → IsClause vars ys → IsClause now xs
 clause-as vars now xs ys same is clause = subst (λ n. IsClause n xs) (sym same) (subst (IsClause vars) (sym is) clause)
 
 -- what is put into an empty list
-pub cleared : (now put old more : List Literal) → now ≡ put → put ≡ old ++ more → old ≡ [] → now ≡ more
-cleared now put old more read added none = read ∙ added ∙ ap (λ ls. ls ++ more) none
+pub cleared : (put old more : List Literal) → put ≡ old ++ more → old ≡ [] → put ≡ more
+cleared put old more added none = added ∙ ap (λ ls. ls ++ more) none
 
 pub one-as : (a x : Literal) → a ≡ x → a ∷ [] ≡ x ∷ []
 one-as a x e = ap (λ l. l ∷ []) e
@@ -163,9 +169,9 @@ pub made : (now extended pushed here before behind : List Literal) (a x : Litera
 made now extended pushed here before behind a x read put one same is =
     read ∙ put ∙ ap (λ ls. ls ++ behind) (one ∙ ap (λ ls. ls ++ a ∷ []) same ∙ ap (λ l. before ++ l ∷ []) is) ∙ append_assoc before (x ∷ []) behind
 
-pub headed : (now added pushed old more : List Literal) (a x : Literal) → now ≡ added → added ≡ pushed ++ more → pushed ≡ old ++ a ∷ [] → old ≡ [] → a ≡ x → now ≡ x ∷ more
-headed now added pushed old more a x read put one none is =
-    read ∙ put ∙ ap (λ ls. ls ++ more) (one ∙ ap (λ ls. ls ++ a ∷ []) none ∙ ap (λ l. l ∷ []) is)
+pub headed : (added pushed old more : List Literal) (a x : Literal) → added ≡ pushed ++ more → pushed ≡ old ++ a ∷ [] → old ≡ [] → a ≡ x → added ≡ x ∷ more
+headed added pushed old more a x put one none is =
+    put ∙ ap (λ ls. ls ++ more) (one ∙ ap (λ ls. ls ++ a ∷ []) none ∙ ap (λ l. l ∷ []) is)
 
 -- what is left of it when all behind a place is taken off
 pub taken-off : (now extended before : List Literal) (rest : List Literal) (n : ℕ) → now ≡ take n extended → extended ≡ before ++ rest → n ≡ length before → now ≡ before

@@ -5,3 +5,4 @@ pub mod Formula
 pub mod Sizes
 pub mod Bits
 pub mod Examples
+pub mod Writing

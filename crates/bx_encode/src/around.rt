@@ -2,12 +2,12 @@
 ghost use Rattle.std.specs.Prelude.{◌≡◌, ◌<◌, ◌∷◌, [], IfOk};
 ghost use Rattle.bx_forms.specs.declared.side.Side.TheVariants.{Left, Right};
 ghost use Rattle.bx_grid.specs.Tiles.{IsTile, border as border_of};
-ghost use Rattle.bx_encode.specs.Sizes.{IsFrame, IsAround};
+ghost use Rattle.bx_encode.specs.Sizes.{IsAround};
 
+use crate::frame::Frame;
 use bx_forms::Side;
-use bx_grid::{Ratio, border, entering};
+use bx_grid::{border, entering};
 use bx_logic::NoMemory;
-use bx_network::MappedNet;
 use std::alloc::Global;
 
 // A tile, and the borders by which something can enter it, from left to right.
@@ -27,19 +27,17 @@ impl Around {
     }
 
     // Turns to this tile.
-    pub fn look(&mut self, net: &MappedNet, ratio: Ratio, t: u32) -> Result<(), NoMemory>
-        requires frame { IsFrame net.now ratio }
-        requires tile { IsTile ratio t }
+    pub fn look(&mut self, frame: &Frame, t: u32) -> Result<(), NoMemory>
+        requires tile { IsTile frame.now.ratio t }
         ensures tile { IfOk result (λ _. self.new.tile ≡ t) }
-        ensures around { IfOk result (λ _. IsAround net.now ratio self.new) }
+        ensures around { IfOk result (λ _. IsAround frame.now.net.now frame.now.ratio self.new) }
     {
-        let _frame = net;
         self.tile = t;
         self.entries.clear();
-        if let Some(b) = entering(ratio, t, Side::Left) {
+        if let Some(b) = entering(frame.ratio, t, Side::Left) {
             self.entries.push(b)?;
         }
-        if let Some(b) = entering(ratio, t, Side::Right) {
+        if let Some(b) = entering(frame.ratio, t, Side::Right) {
             self.entries.push(b)?;
         }
         Ok(())

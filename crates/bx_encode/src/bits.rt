@@ -1,8 +1,8 @@
 //! The bits of a layout: for each variable whether what it says holds. They are set node by node and border
 //! by border.
-ghost use Rattle.std.specs.Prelude.{◌≡◌, ◌≤◌, ◌<◌, ◌-◌, ◌+◌, true, length, slice_set, Some, IfSome, IfOk};
+ghost use Rattle.std.specs.Prelude.{◌≡◌, ◌≤◌, ◌<◌, ◌-◌, ◌+◌, true, length, slice_set, Some, IfOk};
 ghost use Rattle.bx_cnf.specs.Formulas.{AllTrue};
-ghost use Rattle.bx_grid.specs.Tiles.{tile_count, IsTile};
+ghost use Rattle.bx_grid.specs.Tiles.{tile_count};
 ghost use Rattle.bx_layout.specs.Layouts.{Stands, edge_on as edge_of};
 ghost use Rattle.bx_layout.specs.Legal.{IsPlaced, IsLegal};
 ghost use Rattle.bx_layout.specs.Permits.{PermitTest, all_forms};
@@ -12,7 +12,8 @@ ghost use Rattle.bx_encode.specs.Formula.{formula};
 ghost use Rattle.bx_encode.specs.Sizes.{IsFrame};
 
 use crate::formula::counted;
-use crate::numbers::{MOST_AREA, MOST_NODES, node_count, number, tile_count as tiles_of};
+use crate::frame::Frame;
+use crate::numbers::{MOST_AREA, MOST_NODES, number};
 use crate::variable::Variable;
 use bx_grid::Ratio;
 use bx_layout::Layout;
@@ -54,7 +55,11 @@ fn mark_places(net: &MappedNet, layout: &Layout, bits: &mut [bool])
     ensures { AreBitsSoFar net.now layout.now (length net.now.nodes) 0 bits.new }
 {
     let places = layout.places.as_slice();
-    for v in 0..node_count(net, layout.ratio) {
+    let frame = Frame {
+        net,
+        ratio: layout.ratio,
+    };
+    for v in 0..frame.node_count() {
         mark_place(net, layout, v, places[v as usize], bits);
     }
 }
@@ -80,7 +85,11 @@ fn mark_borders(net: &MappedNet, layout: &Layout, bits: &mut [bool])
     ensures { AreBitsOf net.now layout.now bits.new }
 {
     let borders = layout.borders.as_slice();
-    for b in 0..2 * tiles_of(net, layout.ratio) {
+    let frame = Frame {
+        net,
+        ratio: layout.ratio,
+    };
+    for b in 0..2 * frame.tile_count() {
         mark_border(net, layout, b, borders[b as usize], bits);
     }
 }

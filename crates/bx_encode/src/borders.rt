@@ -1,158 +1,112 @@
 //! The clauses on what borders carry: nothing that leads off the grid, one edge at most, and that a border is
 //! used exactly if it carries one.
-ghost use Rattle.std.specs.Prelude.{◌≡◌, ◌<◌, ◌++◌, ◌∷◌, [], map, filter, is_none, if◌then◌else◌, IfOk};
+ghost use Rattle.std.specs.Prelude.{◌<◌, ◌∷◌, [], map, filter, is_none, if◌then◌else◌, IfOk};
 ghost use Rattle.bx_forms.specs.declared.side.Side.TheVariants.{Left, Right};
 ghost use Rattle.bx_grid.specs.Tiles.{IsTile, below as tile_below, border as border_of};
-ghost use Rattle.bx_encode.specs.Variables.{is as is_of, isnt as isnt_of, border_count, variable_count};
+ghost use Rattle.bx_encode.specs.Variables.{is as is_of, isnt as isnt_of, border_count};
 ghost use Rattle.bx_encode.specs.declared.variable.Variable.TheVariants.{EdgeOn, Used};
-ghost use Rattle.bx_encode.specs.Families.{Clause, each, edges, stays_on_grid, carries_once, is_used};
-ghost use Rattle.bx_encode.specs.Sizes.{IsFrame, Adds};
+ghost use Rattle.bx_encode.specs.Families.{each, edges, stays_on_grid, carries_once, is_used};
+ghost use Rattle.bx_encode.specs.Writing.{IsFor, Writes};
 
+use crate::frame::Frame;
 use crate::literals::add_edges_on;
-use crate::numbers::{edge_count, is, isnt, tile_count};
-use crate::push::{push, push_pairs};
 use crate::variable::Variable;
-use bx_cnf::{Clauses, Lit};
+use crate::writer::Writer;
 use bx_forms::Side;
-use bx_grid::{Ratio, below, border};
+use bx_grid::{below, border};
 use bx_logic::NoMemory;
-use bx_network::MappedNet;
 
 // A border that leads off the grid carries nothing.
-pub fn add_stays_on_grid(
-    net: &MappedNet,
-    ratio: Ratio,
-    clauses: &mut Clauses,
-) -> Result<(), NoMemory>
-    requires frame { IsFrame net.now ratio }
-    requires vars { clauses.old.vars ≡ variable_count net.now ratio }
-    ensures { IfOk result (λ _. Adds clauses.old clauses.new (stays_on_grid net.now ratio)) }
+pub fn add_stays_on_grid(frame: &Frame, to: &mut Writer) -> Result<(), NoMemory>
+    requires vars { IsFor frame.now to.old }
+    ensures { IfOk result (λ _. Writes frame.now to.old to.new stays_on_grid) }
 {
-    for t in 0..tile_count(net, ratio) {
-        add_stays_at(net, ratio, t, clauses)?;
+    for t in 0..frame.tile_count() {
+        add_stays_at(frame, t, to)?;
     }
     Ok(())
 }
 
 // The lower sides of the tile that lead off the grid carry nothing.
-fn add_stays_at(
-    net: &MappedNet,
-    ratio: Ratio,
-    t: u32,
-    clauses: &mut Clauses,
-) -> Result<(), NoMemory>
-    requires frame { IsFrame net.now ratio }
-    requires vars { clauses.old.vars ≡ variable_count net.now ratio }
-    requires tile { IsTile ratio t }
-    ensures { IfOk result (λ _. Adds clauses.old clauses.new (each (filter (λ side. is_none (tile_below ratio t side)) (Left ∷ Right ∷ [])) (λ side. map (λ e. isnt_of net.now ratio (EdgeOn e (border_of t side)) ∷ []) (edges net.now ratio)))) }
+fn add_stays_at(frame: &Frame, t: u32, to: &mut Writer) -> Result<(), NoMemory>
+    requires vars { IsFor frame.now to.old }
+    requires tile { IsTile frame.now.ratio t }
+    ensures { IfOk result (λ _. Writes frame.now to.old to.new (λ N r. each (filter (λ side. is_none (tile_below r t side)) (Left ∷ Right ∷ [])) (λ side. map (λ e. isnt_of N r (EdgeOn e (border_of t side)) ∷ []) (edges N r)))) }
 {
-    add_stays(net, ratio, t, Side::Left, clauses)?;
-    add_stays(net, ratio, t, Side::Right, clauses)
+    add_stays(frame, t, Side::Left, to)?;
+    add_stays(frame, t, Side::Right, to)
 }
 
 // This lower side of the tile carries nothing, if it leads off the grid.
-fn add_stays(
-    net: &MappedNet,
-    ratio: Ratio,
-    t: u32,
-    side: Side,
-    clauses: &mut Clauses,
-) -> Result<(), NoMemory>
-    requires frame { IsFrame net.now ratio }
-    requires vars { clauses.old.vars ≡ variable_count net.now ratio }
-    requires tile { IsTile ratio t }
-    ensures { IfOk result (λ _. Adds clauses.old clauses.new (if is_none (tile_below ratio t side) then map (λ e. isnt_of net.now ratio (EdgeOn e (border_of t side)) ∷ []) (edges net.now ratio) else [])) }
+fn add_stays(frame: &Frame, t: u32, side: Side, to: &mut Writer) -> Result<(), NoMemory>
+    requires vars { IsFor frame.now to.old }
+    requires tile { IsTile frame.now.ratio t }
+    ensures { IfOk result (λ _. Writes frame.now to.old to.new (λ N r. if is_none (tile_below r t side) then map (λ e. isnt_of N r (EdgeOn e (border_of t side)) ∷ []) (edges N r) else [])) }
 {
-    if below(ratio, t, side).is_some() {
+    if below(frame.ratio, t, side).is_some() {
         return Ok(());
     }
-    add_carries_nothing(net, ratio, border(t, side), clauses)
+    add_carries_nothing(frame, border(t, side), to)
 }
 
 // No edge is on this border.
-fn add_carries_nothing(
-    net: &MappedNet,
-    ratio: Ratio,
-    b: u32,
-    clauses: &mut Clauses,
-) -> Result<(), NoMemory>
-    requires frame { IsFrame net.now ratio }
-    requires vars { clauses.old.vars ≡ variable_count net.now ratio }
-    requires border { b < border_count ratio }
-    ensures { IfOk result (λ _. Adds clauses.old clauses.new (map (λ e. isnt_of net.now ratio (EdgeOn e b) ∷ []) (edges net.now ratio))) }
+fn add_carries_nothing(frame: &Frame, b: u32, to: &mut Writer) -> Result<(), NoMemory>
+    requires vars { IsFor frame.now to.old }
+    requires border { b < border_count frame.now.ratio }
+    ensures { IfOk result (λ _. Writes frame.now to.old to.new (λ N r. map (λ e. isnt_of N r (EdgeOn e b) ∷ []) (edges N r))) }
 {
-    for e in 0..edge_count(net, ratio) {
-        push(clauses, &[isnt(net, ratio, Variable::EdgeOn(e, b))])?;
+    for e in 0..frame.edge_count() {
+        to.add(&[frame.isnt(Variable::EdgeOn(e, b))])?;
     }
     Ok(())
 }
 
-// A border carries one edge at most. The list holds what it may.
-pub fn add_carries_once(
-    net: &MappedNet,
-    ratio: Ratio,
-    list: &mut Vec<Lit>,
-    clauses: &mut Clauses,
-) -> Result<(), NoMemory>
-    requires frame { IsFrame net.now ratio }
-    requires vars { clauses.old.vars ≡ variable_count net.now ratio }
-    ensures { IfOk result (λ _. Adds clauses.old clauses.new (carries_once net.now ratio)) }
+// A border carries one edge at most.
+pub fn add_carries_once(frame: &Frame, to: &mut Writer) -> Result<(), NoMemory>
+    requires vars { IsFor frame.now to.old }
+    ensures { IfOk result (λ _. Writes frame.now to.old to.new carries_once) }
 {
-    for b in 0..2 * tile_count(net, ratio) {
-        list.clear();
-        add_edges_on(net, ratio, b, false, list)?;
-        push_pairs(clauses, list)?;
+    for b in 0..2 * frame.tile_count() {
+        to.list.clear();
+        add_edges_on(frame, b, false, &mut to.list)?;
+        to.add_pairs()?;
     }
     Ok(())
 }
 
 // A border is used exactly if it carries an edge.
-pub fn add_is_used(
-    net: &MappedNet,
-    ratio: Ratio,
-    list: &mut Vec<Lit>,
-    clauses: &mut Clauses,
-) -> Result<(), NoMemory>
-    requires frame { IsFrame net.now ratio }
-    requires vars { clauses.old.vars ≡ variable_count net.now ratio }
-    ensures { IfOk result (λ _. Adds clauses.old clauses.new (is_used net.now ratio)) }
+pub fn add_is_used(frame: &Frame, to: &mut Writer) -> Result<(), NoMemory>
+    requires vars { IsFor frame.now to.old }
+    ensures { IfOk result (λ _. Writes frame.now to.old to.new is_used) }
 {
-    for b in 0..2 * tile_count(net, ratio) {
-        add_uses(net, ratio, b, clauses)?;
-        add_carries_some(net, ratio, b, list, clauses)?;
+    for b in 0..2 * frame.tile_count() {
+        add_uses(frame, b, to)?;
+        add_carries_some(frame, b, to)?;
     }
     Ok(())
 }
 
 // Each edge uses this border, where it is on it.
-fn add_uses(net: &MappedNet, ratio: Ratio, b: u32, clauses: &mut Clauses) -> Result<(), NoMemory>
-    requires frame { IsFrame net.now ratio }
-    requires vars { clauses.old.vars ≡ variable_count net.now ratio }
-    requires border { b < border_count ratio }
-    ensures { IfOk result (λ _. Adds clauses.old clauses.new (map (λ e. is_of net.now ratio (Used b) ∷ isnt_of net.now ratio (EdgeOn e b) ∷ []) (edges net.now ratio))) }
+fn add_uses(frame: &Frame, b: u32, to: &mut Writer) -> Result<(), NoMemory>
+    requires vars { IsFor frame.now to.old }
+    requires border { b < border_count frame.now.ratio }
+    ensures { IfOk result (λ _. Writes frame.now to.old to.new (λ N r. map (λ e. is_of N r (Used b) ∷ isnt_of N r (EdgeOn e b) ∷ []) (edges N r))) }
 {
-    let used = is(net, ratio, Variable::Used(b));
-    for e in 0..edge_count(net, ratio) {
-        push(clauses, &[used, isnt(net, ratio, Variable::EdgeOn(e, b))])?;
+    let used = frame.is(Variable::Used(b));
+    for e in 0..frame.edge_count() {
+        to.add(&[used, frame.isnt(Variable::EdgeOn(e, b))])?;
     }
     Ok(())
 }
 
 // This border carries an edge, where it is used.
-fn add_carries_some(
-    net: &MappedNet,
-    ratio: Ratio,
-    b: u32,
-    list: &mut Vec<Lit>,
-    clauses: &mut Clauses,
-) -> Result<(), NoMemory>
-    requires frame { IsFrame net.now ratio }
-    requires vars { clauses.old.vars ≡ variable_count net.now ratio }
-    requires border { b < border_count ratio }
-    ensures { IfOk result (λ _. Adds clauses.old clauses.new ((isnt_of net.now ratio (Used b) ∷ map (λ e. is_of net.now ratio (EdgeOn e b)) (edges net.now ratio)) ∷ [])) }
+fn add_carries_some(frame: &Frame, b: u32, to: &mut Writer) -> Result<(), NoMemory>
+    requires vars { IsFor frame.now to.old }
+    requires border { b < border_count frame.now.ratio }
+    ensures { IfOk result (λ _. Writes frame.now to.old to.new (λ N r. (isnt_of N r (Used b) ∷ map (λ e. is_of N r (EdgeOn e b)) (edges N r)) ∷ [])) }
 {
-    list.clear();
-    list.push(isnt(net, ratio, Variable::Used(b)))?;
-    add_edges_on(net, ratio, b, true, list)?;
-    push(clauses, list)
+    to.list.clear();
+    to.list.push(frame.isnt(Variable::Used(b)))?;
+    add_edges_on(frame, b, true, &mut to.list)?;
+    to.add_list()
 }

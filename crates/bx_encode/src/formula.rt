@@ -5,11 +5,13 @@ ghost use Rattle.bx_grid.specs.Tiles.{tile_count, IsGrid};
 ghost use Rattle.bx_layout.specs.Permits.{test_of};
 ghost use Rattle.bx_encode.specs.Variables.{variable_count as variable_count_of};
 ghost use Rattle.bx_encode.specs.Formula.{place_clauses, border_clauses, way_clauses, formula};
-ghost use Rattle.bx_encode.specs.Sizes.{IsFrame, Adds};
+ghost use Rattle.bx_encode.specs.Sizes.{IsFrame};
+ghost use Rattle.bx_encode.specs.Writing.{IsFor, Writes};
 
 use crate::around::Around;
 use crate::borders::{add_carries_once, add_is_used, add_stays_on_grid};
-use crate::numbers::{MOST_AREA, MOST_NODES, variable_count};
+use crate::frame::Frame;
+use crate::numbers::{MOST_AREA, MOST_NODES};
 use crate::permitted::add_is_permitted;
 use crate::places::{
     add_keeps_its_window, add_stands_apart, add_stands_once, add_stands_somewhere,
@@ -17,7 +19,8 @@ use crate::places::{
 };
 use crate::rule::Rule;
 use crate::ways::add_keeps_rule;
-use bx_cnf::{Clauses, Lit};
+use crate::writer::Writer;
+use bx_cnf::Clauses;
 use bx_grid::Ratio;
 use bx_layout::Permit;
 use bx_logic::NoMemory;
@@ -37,13 +40,17 @@ pub fn encode(
     requires area { tile_count ratio ≤ MOST_AREA }
     ensures { IfOk result (λ f. f ≡ formula net.now (test_of permit.now) ratio) }
 {
-    let mut clauses = Clauses::new(alloc, counted(net, ratio));
-    let mut list = Vec::new(alloc);
-    add_places(net, ratio, &mut list, &mut clauses)?;
-    add_borders(net, ratio, &mut list, &mut clauses)?;
-    add_ways(alloc, net, ratio, &mut list, &mut clauses)?;
-    add_is_permitted(net, permit, ratio, &mut list, &mut clauses)?;
-    Ok(clauses)
+    let count = counted(net, ratio);
+    let frame = Frame { net, ratio };
+    let mut to = Writer {
+        list: Vec::new(alloc),
+        clauses: Clauses::new(alloc, count),
+    };
+    add_places(&frame, &mut to)?;
+    add_borders(&frame, &mut to)?;
+    add_ways(alloc, &frame, &mut to)?;
+    add_is_permitted(&frame, permit, &mut to)?;
+    Ok(to.clauses)
 }
 
 // How many variables there are. A network has two edges for each node at most.
@@ -56,60 +63,42 @@ pub fn counted(net: &MappedNet, ratio: Ratio) -> u32
     ensures frame { IsFrame net.now ratio }
 {
     let _nodes = net.node_count();
-    variable_count(net, ratio)
+    let frame = Frame { net, ratio };
+    frame.variable_count()
 }
 
-// Where nodes stand. The list holds what it may.
-fn add_places(
-    net: &MappedNet,
-    ratio: Ratio,
-    list: &mut Vec<Lit>,
-    clauses: &mut Clauses,
-) -> Result<(), NoMemory>
-    requires frame { IsFrame net.now ratio }
-    requires vars { clauses.old.vars ≡ variable_count_of net.now ratio }
-    ensures { IfOk result (λ _. Adds clauses.old clauses.new (place_clauses net.now ratio)) }
+// Where nodes stand.
+fn add_places(frame: &Frame, to: &mut Writer) -> Result<(), NoMemory>
+    requires vars { IsFor frame.now to.old }
+    ensures { IfOk result (λ _. Writes frame.now to.old to.new place_clauses) }
 {
-    add_stands_somewhere(net, ratio, list, clauses)?;
-    add_stands_once(net, ratio, list, clauses)?;
-    add_stands_apart(net, ratio, list, clauses)?;
-    add_takes_its_tile(net, ratio, clauses)?;
-    add_keeps_its_window(net, ratio, clauses)
+    add_stands_somewhere(frame, to)?;
+    add_stands_once(frame, to)?;
+    add_stands_apart(frame, to)?;
+    add_takes_its_tile(frame, to)?;
+    add_keeps_its_window(frame, to)
 }
 
 // What borders carry.
-fn add_borders(
-    net: &MappedNet,
-    ratio: Ratio,
-    list: &mut Vec<Lit>,
-    clauses: &mut Clauses,
-) -> Result<(), NoMemory>
-    requires frame { IsFrame net.now ratio }
-    requires vars { clauses.old.vars ≡ variable_count_of net.now ratio }
-    ensures { IfOk result (λ _. Adds clauses.old clauses.new (border_clauses net.now ratio)) }
+fn add_borders(frame: &Frame, to: &mut Writer) -> Result<(), NoMemory>
+    requires vars { IsFor frame.now to.old }
+    ensures { IfOk result (λ _. Writes frame.now to.old to.new border_clauses) }
 {
-    add_stays_on_grid(net, ratio, clauses)?;
-    add_carries_once(net, ratio, list, clauses)?;
-    add_is_used(net, ratio, list, clauses)
+    add_stays_on_grid(frame, to)?;
+    add_carries_once(frame, to)?;
+    add_is_used(frame, to)
 }
 
 // How edges go through tiles.
-fn add_ways(
-    alloc: Global,
-    net: &MappedNet,
-    ratio: Ratio,
-    list: &mut Vec<Lit>,
-    clauses: &mut Clauses,
-) -> Result<(), NoMemory>
-    requires frame { IsFrame net.now ratio }
-    requires vars { clauses.old.vars ≡ variable_count_of net.now ratio }
-    ensures { IfOk result (λ _. Adds clauses.old clauses.new (way_clauses net.now ratio)) }
+fn add_ways(alloc: Global, frame: &Frame, to: &mut Writer) -> Result<(), NoMemory>
+    requires vars { IsFor frame.now to.old }
+    ensures { IfOk result (λ _. Writes frame.now to.old to.new way_clauses) }
 {
     let mut around = Around::new(alloc);
-    add_keeps_rule(net, ratio, Rule::ComesFromAbove, &mut around, list, clauses)?;
-    add_keeps_rule(net, ratio, Rule::GoesOnBelow, &mut around, list, clauses)?;
-    add_keeps_rule(net, ratio, Rule::JoinsItsEnds, &mut around, list, clauses)?;
-    add_keeps_rule(net, ratio, Rule::GoesOneWay, &mut around, list, clauses)?;
-    add_keeps_rule(net, ratio, Rule::KeepsOffNodes, &mut around, list, clauses)?;
+    add_keeps_rule(frame, Rule::ComesFromAbove, &mut around, to)?;
+    add_keeps_rule(frame, Rule::GoesOnBelow, &mut around, to)?;
+    add_keeps_rule(frame, Rule::JoinsItsEnds, &mut around, to)?;
+    add_keeps_rule(frame, Rule::GoesOneWay, &mut around, to)?;
+    add_keeps_rule(frame, Rule::KeepsOffNodes, &mut around, to)?;
     Ok(())
 }

@@ -10,6 +10,7 @@ mod around;
 mod bits;
 mod borders;
 mod formula;
+mod frame;
 pub mod laws;
 mod literals;
 mod numbers;
@@ -19,6 +20,7 @@ mod push;
 mod rule;
 mod variable;
 mod ways;
+mod writer;
 
 pub use bits::bits_of;
 pub use formula::encode;

@@ -1,18 +1,11 @@
-//! Clauses that are added behind others: one, one for each two of some literals, and one for each border of
-//! some.
-ghost use Rattle.std.specs.Prelude.{◌≡◌, ◌<◌, ℕ, ◌++◌, [], ◌∷◌, map, length, IfOk, Contains};
+//! Clauses that are added behind others: one, and one for each two of some literals.
+ghost use Rattle.std.specs.Prelude.{[], ◌∷◌, map, IfOk};
 ghost use Rattle.bx_cnf.specs.Formulas.{IsClause};
-ghost use Rattle.bx_encode.specs.Variables.{border_count, isnt as isnt_of};
-ghost use Rattle.bx_encode.specs.declared.variable.Variable.TheVariants.{EdgeOn};
 ghost use Rattle.bx_encode.specs.Families.{pairs};
-ghost use Rattle.bx_encode.specs.Sizes.{IsFrame, Adds};
+ghost use Rattle.bx_encode.specs.Sizes.{Adds};
 
-use crate::numbers::isnt;
-use crate::variable::Variable;
 use bx_cnf::{Clauses, Lit};
-use bx_grid::Ratio;
 use bx_logic::NoMemory;
-use bx_network::MappedNet;
 
 // Adds a clause.
 pub fn push(clauses: &mut Clauses, literals: &[Lit]) -> Result<(), NoMemory>
@@ -43,32 +36,6 @@ fn push_with_each(clauses: &mut Clauses, first: Lit, later: &[Lit]) -> Result<()
 {
     for second in later {
         push(clauses, &[first, *second])?;
-    }
-    Ok(())
-}
-
-// Adds for each of the borders the clause that the edge isn't on it, with these literals before and behind.
-pub fn push_each(
-    net: &MappedNet,
-    ratio: Ratio,
-    e: u32,
-    borders: &[u32],
-    before: &mut Vec<Lit>,
-    behind: &[Lit],
-    clauses: &mut Clauses,
-) -> Result<(), NoMemory>
-    requires frame { IsFrame net.now ratio }
-    requires edge { e < length net.now.edges }
-    requires borders { (b : ℕ) → Contains borders.now b → b < border_count ratio }
-    requires clause { (b : ℕ) → Contains borders.now b → IsClause clauses.old.vars (before.old.items ++ isnt_of net.now ratio (EdgeOn e b) ∷ behind.now) }
-    ensures { IfOk result (λ _. Adds clauses.old clauses.new (map (λ b. before.old.items ++ isnt_of net.now ratio (EdgeOn e b) ∷ behind.now) borders.now)) }
-{
-    let length = before.len();
-    for b in borders {
-        before.push(isnt(net, ratio, Variable::EdgeOn(e, *b)))?;
-        before.extend_from_slice(behind)?;
-        push(clauses, before)?;
-        before.truncate(length);
     }
     Ok(())
 }

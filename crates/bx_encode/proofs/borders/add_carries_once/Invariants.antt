@@ -8,4 +8,4 @@ use Rattle.bx_encode.specs.Sizes.{Adds}
 use Rattle.bx_encode.proofs.borders.add_carries_once.Given as goal
 
 abbrev pub invariant-loop-b : goal.invariant-loop-b
-invariant-loop-b l = Adds l.initial.clauses l.clauses (each (range_with_len 0 l.b) (λ b. pairs (map (λ e. isnt l.net l.ratio (EdgeOn e b)) (edges l.net l.ratio))))
+invariant-loop-b l = Adds l.initial.to.clauses l.to.clauses (each (range_with_len 0 l.b) (λ b. pairs (map (λ e. isnt l.frame.net.now l.frame.ratio (EdgeOn e b)) (edges l.frame.net.now l.frame.ratio))))

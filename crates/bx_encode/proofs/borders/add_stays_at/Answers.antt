@@ -12,5 +12,5 @@ use Rattle.bx_encode.proofs.borders.add_stays_at.Goals as goal
 pub returns : goal.returns
 returns c =
     IfOk-weaker c.add_stays-2.result _ _
-    (λ _ right. adds-sides (λ side. is_none (below c.args.ratio c.args.t side)) (λ side. map (λ e. isnt c.args.net.now c.args.ratio (EdgeOn e (border c.args.t side)) ∷ []) (edges c.args.net.now c.args.ratio)) _ _ _ c.in_ok-add_stays.ensures right)
+    (λ _ right. adds-sides (λ side. is_none (below c.args.frame.now.ratio c.args.t side)) (λ side. map (λ e. isnt c.args.frame.now.net.now c.args.frame.now.ratio (EdgeOn e (border c.args.t side)) ∷ []) (edges c.args.frame.now.net.now c.args.frame.now.ratio)) _ _ _ c.in_ok-add_stays.ensures right)
     c.add_stays-2.ensures

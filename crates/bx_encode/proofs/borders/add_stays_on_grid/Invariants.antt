@@ -11,4 +11,4 @@ use Rattle.bx_encode.specs.Sizes.{Adds}
 use Rattle.bx_encode.proofs.borders.add_stays_on_grid.Given as goal
 
 abbrev pub invariant-loop-t : goal.invariant-loop-t
-invariant-loop-t l = Adds l.initial.clauses l.clauses (each (range_with_len 0 l.t) (λ t. each (filter (λ side. is_none (below l.ratio t side)) (Left ∷ Right ∷ [])) (λ side. map (λ e. isnt l.net l.ratio (EdgeOn e (border t side)) ∷ []) (edges l.net l.ratio))))
+invariant-loop-t l = Adds l.initial.to.clauses l.to.clauses (each (range_with_len 0 l.t) (λ t. each (filter (λ side. is_none (below l.frame.ratio t side)) (Left ∷ Right ∷ [])) (λ side. map (λ e. isnt l.frame.net.now l.frame.ratio (EdgeOn e (border t side)) ∷ []) (edges l.frame.net.now l.frame.ratio))))

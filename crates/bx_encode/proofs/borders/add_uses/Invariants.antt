@@ -7,4 +7,4 @@ use Rattle.bx_encode.specs.Sizes.{Adds}
 use Rattle.bx_encode.proofs.borders.add_uses.Given as goal
 
 abbrev pub invariant-loop-e : goal.invariant-loop-e
-invariant-loop-e l = Adds l.initial.clauses l.clauses (map (λ e. is l.net l.ratio (Used l.b) ∷ isnt l.net l.ratio (EdgeOn e l.b) ∷ []) (range_with_len 0 l.e))
+invariant-loop-e l = Adds l.initial.to.clauses l.to.clauses (map (λ e. is l.frame.net.now l.frame.ratio (Used l.b) ∷ isnt l.frame.net.now l.frame.ratio (EdgeOn e l.b) ∷ []) (range_with_len 0 l.e))

@@ -5,4 +5,4 @@ use Rattle.std.proofs.lemmas.Result.{IfOk-weaker}
 use Rattle.bx_encode.proofs.literals.add_edges_on.Goals as goal
 
 pub returns : goal.returns
-returns c = IfOk-weaker c.add_rising.result _ _ (λ _ put. put-rising c.args.list.now.items c.add_rising.new.list.items _ _ put (edges-rise c.args.net.now c.args.ratio c.args.b c.edge_on.result (2 * c.tile_count.result) c.edge_count.result c.args.positive c.edge_on.ensures.is (ap (λ n. 2 * n) c.tile_count.ensures.is) c.edge_count.ensures.is)) c.add_rising.ensures
+returns c = IfOk-weaker c.add_rising.result _ _ (λ _ put. put-rising c.args.list.now.items c.add_rising.new.list.items _ _ put (edges-rise _ _ c.args.b c.edge_on.result (2 * c.tile_count.result) c.edge_count.result c.args.positive c.edge_on.ensures.is (ap (λ n. 2 * n) c.tile_count.ensures.is) c.edge_count.ensures.is)) c.add_rising.ensures

@@ -5,4 +5,4 @@ use Rattle.bx_encode.specs.Variables.{number}
 use Rattle.bx_encode.proofs.literals.add_on.Given as goal
 
 abbrev pub invariant-loop-b : goal.invariant-loop-b
-invariant-loop-b l = l.list.items ≡ l.initial.list.items ++ map (λ b. record { var = number l.net l.ratio (EdgeOn l.e b); positive = l.positive }) (take l.b-index l.borders)
+invariant-loop-b l = l.list.items ≡ l.initial.list.items ++ map (λ b. record { var = number l.frame.net.now l.frame.ratio (EdgeOn l.e b); positive = l.positive }) (take l.b-index l.borders)

@@ -7,4 +7,4 @@ use Rattle.bx_encode.specs.Sizes.{Adds}
 use Rattle.bx_encode.proofs.permitted.add_is_permitted.Given as goal
 
 abbrev pub invariant-loop-t : goal.invariant-loop-t
-invariant-loop-t l = Adds l.initial.clauses l.clauses (each (range_with_len 0 l.t) (λ t. each (filter (λ form. not (test_of l.permit l.ratio t form)) (range_with_len 0 28)) (bars l.net l.ratio t)))
+invariant-loop-t l = Adds l.initial.to.clauses l.to.clauses (each (range_with_len 0 l.t) (λ t. each (filter (λ form. not (test_of l.permit l.frame.ratio t form)) (range_with_len 0 28)) (bars l.frame.net.now l.frame.ratio t)))

@@ -7,4 +7,4 @@ use Rattle.bx_encode.specs.Sizes.{Adds}
 use Rattle.bx_encode.proofs.permitted.add_no_way.Given as goal
 
 abbrev pub invariant-loop-e : goal.invariant-loop-e
-invariant-loop-e l = Adds l.initial.clauses l.clauses (map (λ e. isnt l.net l.ratio (Used l.beside) ∷ isnt l.net l.ratio (EdgeOn e l.above) ∷ isnt l.net l.ratio (EdgeOn e l.below) ∷ []) (range_with_len 0 l.e))
+invariant-loop-e l = Adds l.initial.to.clauses l.to.clauses (map (λ e. isnt l.frame.net.now l.frame.ratio (Used l.beside) ∷ isnt l.frame.net.now l.frame.ratio (EdgeOn e l.above) ∷ isnt l.frame.net.now l.frame.ratio (EdgeOn e l.below) ∷ []) (range_with_len 0 l.e))

@@ -7,4 +7,4 @@ use Rattle.bx_encode.specs.Sizes.{Adds}
 use Rattle.bx_encode.proofs.permitted.add_permitted_on.Given as goal
 
 abbrev pub invariant-loop-number : goal.invariant-loop-number
-invariant-loop-number l = Adds l.initial.clauses l.clauses (each (filter (λ form. not (test_of l.permit l.ratio l.t form)) (range_with_len 0 l.number)) (bars l.net l.ratio l.t))
+invariant-loop-number l = Adds l.initial.to.clauses l.to.clauses (each (filter (λ form. not (test_of l.permit l.frame.ratio l.t form)) (range_with_len 0 l.number)) (bars l.frame.net.now l.frame.ratio l.t))

@@ -10,4 +10,4 @@ use Rattle.bx_encode.specs.Sizes.{Adds}
 use Rattle.bx_encode.proofs.places.add_keeps_its_window.Given as goal
 
 abbrev pub invariant-loop-v : goal.invariant-loop-v
-invariant-loop-v l = Adds l.initial.clauses l.clauses (each (range_with_len 0 l.v) (λ v. map (λ t. isnt l.net l.ratio (NodeOn v t) ∷ []) (filter (λ t. not (in_window l.net v (y_of l.ratio t) l.ratio.h)) (tiles l.net l.ratio))))
+invariant-loop-v l = Adds l.initial.to.clauses l.to.clauses (each (range_with_len 0 l.v) (λ v. map (λ t. isnt l.frame.net.now l.frame.ratio (NodeOn v t) ∷ []) (filter (λ t. not (in_window l.frame.net.now v (y_of l.frame.ratio t) l.frame.ratio.h)) (tiles l.frame.net.now l.frame.ratio))))

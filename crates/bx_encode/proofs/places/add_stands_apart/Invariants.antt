@@ -8,4 +8,4 @@ use Rattle.bx_encode.specs.Sizes.{Adds}
 use Rattle.bx_encode.proofs.places.add_stands_apart.Given as goal
 
 abbrev pub invariant-loop-t : goal.invariant-loop-t
-invariant-loop-t l = Adds l.initial.clauses l.clauses (each (range_with_len 0 l.t) (λ t. pairs (map (λ v. isnt l.net l.ratio (NodeOn v t)) (nodes l.net l.ratio))))
+invariant-loop-t l = Adds l.initial.to.clauses l.to.clauses (each (range_with_len 0 l.t) (λ t. pairs (map (λ v. isnt l.frame.net.now l.frame.ratio (NodeOn v t)) (nodes l.frame.net.now l.frame.ratio))))

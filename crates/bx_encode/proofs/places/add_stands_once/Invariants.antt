@@ -8,4 +8,4 @@ use Rattle.bx_encode.specs.Sizes.{Adds}
 use Rattle.bx_encode.proofs.places.add_stands_once.Given as goal
 
 abbrev pub invariant-loop-v : goal.invariant-loop-v
-invariant-loop-v l = Adds l.initial.clauses l.clauses (each (range_with_len 0 l.v) (λ v. pairs (map (λ t. isnt l.net l.ratio (NodeOn v t)) (tiles l.net l.ratio))))
+invariant-loop-v l = Adds l.initial.to.clauses l.to.clauses (each (range_with_len 0 l.v) (λ v. pairs (map (λ t. isnt l.frame.net.now l.frame.ratio (NodeOn v t)) (tiles l.frame.net.now l.frame.ratio))))

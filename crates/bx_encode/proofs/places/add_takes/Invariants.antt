@@ -7,4 +7,4 @@ use Rattle.bx_encode.specs.Sizes.{Adds}
 use Rattle.bx_encode.proofs.places.add_takes.Given as goal
 
 abbrev pub invariant-loop-v : goal.invariant-loop-v
-invariant-loop-v l = Adds l.initial.clauses l.clauses (map (λ v. isnt l.net l.ratio (NodeOn v l.t) ∷ is l.net l.ratio (Taken l.t) ∷ []) (range_with_len 0 l.v))
+invariant-loop-v l = Adds l.initial.to.clauses l.to.clauses (map (λ v. isnt l.frame.net.now l.frame.ratio (NodeOn v l.t) ∷ is l.frame.net.now l.frame.ratio (Taken l.t) ∷ []) (range_with_len 0 l.v))

@@ -8,4 +8,4 @@ use Rattle.bx_encode.specs.Sizes.{Adds}
 use Rattle.bx_encode.proofs.places.add_takes_its_tile.Given as goal
 
 abbrev pub invariant-loop-t : goal.invariant-loop-t
-invariant-loop-t l = Adds l.initial.clauses l.clauses (each (range_with_len 0 l.t) (λ t. map (λ v. isnt l.net l.ratio (NodeOn v t) ∷ is l.net l.ratio (Taken t) ∷ []) (nodes l.net l.ratio)))
+invariant-loop-t l = Adds l.initial.to.clauses l.to.clauses (each (range_with_len 0 l.t) (λ t. map (λ v. isnt l.frame.net.now l.frame.ratio (NodeOn v t) ∷ is l.frame.net.now l.frame.ratio (Taken t) ∷ []) (nodes l.frame.net.now l.frame.ratio)))

@@ -9,4 +9,4 @@ use Rattle.bx_encode.specs.Sizes.{Adds}
 use Rattle.bx_encode.proofs.places.add_window.Given as goal
 
 abbrev pub invariant-loop-t : goal.invariant-loop-t
-invariant-loop-t l = Adds l.initial.clauses l.clauses (map (λ t. isnt l.net l.ratio (NodeOn l.v t) ∷ []) (filter (λ t. not (in_window l.net l.v (y_of l.ratio t) l.ratio.h)) (range_with_len 0 l.t)))
+invariant-loop-t l = Adds l.initial.to.clauses l.to.clauses (map (λ t. isnt l.frame.net.now l.frame.ratio (NodeOn l.v t) ∷ []) (filter (λ t. not (in_window l.frame.net.now l.v (y_of l.frame.ratio t) l.frame.ratio.h)) (range_with_len 0 l.t)))

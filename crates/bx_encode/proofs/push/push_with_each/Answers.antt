@@ -12,4 +12,4 @@ push-requires c =
 
 pub loop-second-preserved : goal.loop-second-preserved
 loop-second-preserved c =
-    adds-item (λ y. c.args.first ∷ y ∷ []) c.args.later.now c.second-item.result _ _ _ c.loop-second.second-index c.loop-second-test.true c.second-item.is c.loop-second.invariant c.in_ok-push.ensures
+    adds-item _ c.args.later.now c.second-item.result _ _ _ c.loop-second.second-index c.loop-second-test.true c.second-item.is c.loop-second.invariant c.in_ok-push.ensures

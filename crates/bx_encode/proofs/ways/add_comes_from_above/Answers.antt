@@ -11,20 +11,20 @@ use Rattle.bx_encode.proofs.Passing.{comes-clause, each-same}
 use Rattle.bx_encode.proofs.ways.add_comes_from_above.Goals as goal
 
 pub add_on-requires-clause-borders : goal.add_on-requires-clause-borders
-add_on-requires-clause-borders c b own = entry-in c.args.net.now c.args.ratio c.args.around.now.tile b c.requires.around.tile (subst (λ l. Contains l b) (c.as_slice-coming.ensures.value ∙ c.requires.around.are) own)
+add_on-requires-clause-borders c b own = entry-in c.args.frame.now.net.now c.args.frame.now.ratio c.args.around.now.tile b c.requires.around.tile (subst (λ l. Contains l b) (c.as_slice-coming.ensures.value ∙ c.requires.around.are) own)
 
-pub push_each-requires-clause-borders : goal.push_each-requires-clause-borders
-push_each-requires-clause-borders c b own = exit-in c.args.net.now c.args.ratio c.args.around.now.tile b c.requires.around.tile (subst (λ l. Contains l b) c.exits-leaving.ensures own)
+pub add_each-requires-clause-borders : goal.add_each-requires-clause-borders
+add_each-requires-clause-borders c b own = exit-in c.args.frame.now.net.now c.args.frame.now.ratio c.args.around.now.tile b c.requires.around.tile (subst (λ l. Contains l b) c.exits-leaving.ensures own)
 
-pub push_each-requires-clause-clause : goal.push_each-requires-clause-clause
-push_each-requires-clause-clause c b own =
-    let node : (source c.args.net.now c.args.ratio c.args.e) < length c.args.net.now.nodes = (omega (arith, c.source.ensures.is, c.source.ensures.node)) in
-    clause-as _ _ _ _ c.requires.vars (ap (λ l. l ++ isnt c.args.net.now c.args.ratio (EdgeOn c.args.e b) ∷ []) (headed _ _ _ _ _ _ _ refl c.in_ok-add_on.ensures c.in_ok-push.ensures.items c.clear.ensures.items (c.is-begins.ensures ∙ ap (λ v. is c.args.net.now c.args.ratio (NodeOn v c.args.around.now.tile)) c.source.ensures.is) ∙ ap (λ l. is c.args.net.now c.args.ratio (NodeOn (source c.args.net.now c.args.ratio c.args.e) c.args.around.now.tile) ∷ on_some c.args.net.now c.args.ratio c.args.e l) (c.as_slice-coming.ensures.value ∙ c.requires.around.are)))
-    (comes-clause c.args.net.now c.args.ratio (source c.args.net.now c.args.ratio c.args.e) c.args.around.now.tile c.args.e b node c.requires.around.tile c.requires.edge (subst (λ l. Contains l b) c.exits-leaving.ensures own))
+pub add_each-requires-clause-clause : goal.add_each-requires-clause-clause
+add_each-requires-clause-clause c b own =
+    let node : (source c.args.frame.now.net.now c.args.frame.now.ratio c.args.e) < length c.args.frame.now.net.now.nodes = (omega (arith, c.source.ensures.is, c.source.ensures.node)) in
+    clause-as _ _ _ _ c.requires.vars (ap (λ l. l ++ isnt c.args.frame.now.net.now c.args.frame.now.ratio (EdgeOn c.args.e b) ∷ []) (headed _ _ _ _ _ _ c.in_ok-add_on.ensures c.in_ok-push.ensures.items c.clear.ensures.items (c.is-begins.ensures ∙ ap (λ v. is c.args.frame.now.net.now c.args.frame.now.ratio (NodeOn v c.args.around.now.tile)) c.source.ensures.is) ∙ ap (λ l. is c.args.frame.now.net.now c.args.frame.now.ratio (NodeOn (source c.args.frame.now.net.now c.args.frame.now.ratio c.args.e) c.args.around.now.tile) ∷ on_some c.args.frame.now.net.now c.args.frame.now.ratio c.args.e l) (c.as_slice-coming.ensures.value ∙ c.requires.around.are)))
+    (comes-clause _ _ (source c.args.frame.now.net.now c.args.frame.now.ratio c.args.e) c.args.around.now.tile c.args.e b node c.requires.around.tile c.requires.edge (subst (λ l. Contains l b) c.exits-leaving.ensures own))
 
 pub returns : goal.returns
 unfolding rule_clauses
 returns c =
-    IfOk-weaker c.push_each.result _ _
-    (λ _ adds. adds-by _ _ _ _ (each-same (λ b. isnt c.args.net.now c.args.ratio (EdgeOn c.args.e b)) _ _ _ _ _ _ (headed _ _ _ _ _ _ _ refl c.in_ok-add_on.ensures c.in_ok-push.ensures.items c.clear.ensures.items (c.is-begins.ensures ∙ ap (λ v. is c.args.net.now c.args.ratio (NodeOn v c.args.around.now.tile)) c.source.ensures.is) ∙ ap (λ l. is c.args.net.now c.args.ratio (NodeOn (source c.args.net.now c.args.ratio c.args.e) c.args.around.now.tile) ∷ on_some c.args.net.now c.args.ratio c.args.e l) (c.as_slice-coming.ensures.value ∙ c.requires.around.are)) refl c.exits-leaving.ensures) adds)
-    c.push_each.ensures
+    IfOk-weaker c.add_each.result _ _
+    (λ _ adds. adds-by _ _ _ _ (each-same (λ b. isnt c.args.frame.now.net.now c.args.frame.now.ratio (EdgeOn c.args.e b)) _ _ _ _ _ _ (headed _ _ _ _ _ _ c.in_ok-add_on.ensures c.in_ok-push.ensures.items c.clear.ensures.items (c.is-begins.ensures ∙ ap (λ v. is c.args.frame.now.net.now c.args.frame.now.ratio (NodeOn v c.args.around.now.tile)) c.source.ensures.is) ∙ ap (λ l. is c.args.frame.now.net.now c.args.frame.now.ratio (NodeOn (source c.args.frame.now.net.now c.args.frame.now.ratio c.args.e) c.args.around.now.tile) ∷ on_some c.args.frame.now.net.now c.args.frame.now.ratio c.args.e l) (c.as_slice-coming.ensures.value ∙ c.requires.around.are)) refl c.exits-leaving.ensures) adds)
+    c.add_each.ensures

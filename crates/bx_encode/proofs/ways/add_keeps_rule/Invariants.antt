@@ -5,4 +5,4 @@ use Rattle.bx_encode.specs.Sizes.{Adds}
 use Rattle.bx_encode.proofs.ways.add_keeps_rule.Given as goal
 
 abbrev pub invariant-loop-t : goal.invariant-loop-t
-invariant-loop-t l = Adds l.initial.clauses l.clauses (each (range_with_len 0 l.t) (λ t. each (edges l.net l.ratio) (rule_clauses l.net l.ratio l.rule t)))
+invariant-loop-t l = Adds l.initial.to.clauses l.to.clauses (each (range_with_len 0 l.t) (λ t. each (edges l.frame.net.now l.frame.ratio) (rule_clauses l.frame.net.now l.frame.ratio l.rule t)))

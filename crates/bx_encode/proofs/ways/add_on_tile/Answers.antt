@@ -1,7 +1,6 @@
 -- One edge more.
-use Rattle.bx_encode.specs.Families.{rule_clauses}
 use Rattle.bx_encode.proofs.Adding.{adds-each}
 use Rattle.bx_encode.proofs.ways.add_on_tile.Goals as goal
 
 pub loop-e-preserved : goal.loop-e-preserved
-loop-e-preserved c = adds-each (rule_clauses c.args.net.now c.args.ratio c.args.rule c.args.around.now.tile) _ _ _ c.loop-e.e c.loop-e.invariant c.in_ok-add_rule.ensures
+loop-e-preserved c = adds-each _ _ _ _ c.loop-e.e c.loop-e.invariant c.in_ok-add_rule.ensures

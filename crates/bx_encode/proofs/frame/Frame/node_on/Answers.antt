@@ -1,7 +1,7 @@
 -- The number, with the count of tiles that the call gave.
 use Rattle.std.proofs.Common.{◌+◌, ◌*◌, ap}
 use Rattle.bx_encode.specs.Variables.{number}
-use Rattle.bx_encode.proofs.numbers.node_on.Goals as goal
+use Rattle.bx_encode.proofs.frame.Frame.node_on.Goals as goal
 
 pub returns-clause-is : goal.returns-clause-is
 unfolding number

@@ -1,0 +1,17 @@
+-- What is said of the clauses that are put behind others, for a network and a ratio.
+use Rattle.std.specs.Prelude.{◌≡◌, List}
+use Rattle.bx_grid.specs.declared.ratio.Ratio.{Ratio}
+use Rattle.bx_network.specs.Networks.{Network}
+use Rattle.bx_encode.specs.declared.frame.Frame.{Frame}
+use Rattle.bx_encode.specs.declared.writer.Writer.{Writer}
+use Rattle.bx_encode.specs.Families.{Clause}
+use Rattle.bx_encode.specs.Sizes.{Adds}
+use Rattle.bx_encode.specs.Variables.{variable_count}
+
+-- the clauses are over the variables of the network and the ratio
+abbrev pub IsFor : Frame → Writer → Type 0
+IsFor frame to = to.clauses.vars ≡ variable_count frame.net.now frame.ratio
+
+-- these clauses of the network and the ratio stand behind those that stood before
+abbrev pub Writes : Frame → Writer → Writer → (Network → Ratio → List Clause) → Type 0
+Writes frame before after clauses = Adds before.clauses after.clauses (clauses frame.net.now frame.ratio)

@@ -1,5 +1,6 @@
 -- A text that was put out to be said, and what the end of a run says then.
-use Rattle.std.proofs.Common.{◌≡◌, ℕ, List, [], ◌++◌, Result, Ok, Err, sym, ◌∙◌, subst, refl}
+use Rattle.std.proofs.Common.{◌≡◌, ℕ, false, true≢false, List, [], ◌++◌, Result, Ok, Err, OnOk, sym, ◌∙◌, subst, refl}
+use Rattle.std.specs.Prelude.{is_err}
 use Rattle.std.proofs.lemmas.List.{append-nil}
 use Rattle.bx_desk.specs.Desk.{DeskState, Says, PutsFront}
 use Rattle.bx_desk.specs.Pieces.{pending, target_of, PutsUpTo, HandsOn, PutsOut}
@@ -43,3 +44,8 @@ says_ends {T} old mid new first u result status p0 p1 text empty is ok a b =
 pub says_ends_failed : {T : Type 0} (old new : DeskState) (first : Result T Failed) (e : Failed) (status : SatStatus) (p0 p1 : Piece) (text : List ℕ) → pending p0 ≡ [] → target_of p0 ≡ Output → first ≡ Err e → PutsOut old new first p0 p1 text → EndsSaying old new status text NotSaid
 says_ends_failed {T} old new first e status p0 p1 text empty is err a =
     failed (subst (λ (r : Result T Failed). HandsOn r Output old new text (pending p1)) err (said_first old new first p0 p1 text empty is a))
+
+-- what holds where there is no error, where there is none
+pub kept : {T E : Type 0} (r : Result T E) (P : Type 0) → is_err r ≡ false → OnOk r P → P
+kept (Ok x) P none h = h
+kept (Err e) P none h = absurd (true≢false none)

@@ -1,3 +1,4 @@
 pub mod Endings
 pub mod Values
 pub mod Stopping
+pub mod Budgets

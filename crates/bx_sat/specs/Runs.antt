@@ -1,30 +1,52 @@
--- How a run ends, over what its desk had before.
-use Rattle.std.specs.Prelude.{◌≡◌, ℕ, codes}
-use Rattle.bx_desk.specs.Desk.{DeskState}
+-- How a run ends, over what its words ask for and what its desk had before.
+use Rattle.std.specs.Prelude.{◌≡◌, ℕ, ◌≤◌, codes, Option, Some, None}
+use Rattle.bx_desk.specs.Desk.{DeskState, Starts, Writes}
 use Rattle.bx_cnf.specs.Formulas.{Formula}
 use Rattle.bx_dimacs.specs.declared.proof.LratProof.{LratProof}
+use Rattle.bx_proof.specs.Texts.{log_text}
 use Rattle.bx_says.specs.Texts.{Text}
 use Rattle.bx_sat.specs.declared.status.SatStatus.{SatStatus}
 use Rattle.bx_sat.specs.declared.status.SatStatus.TheVariants.{BadLine, Words, Failed, NoMemory}
 use Rattle.bx_sat.specs.declared.checking.Verdict.{Verdict}
 use Rattle.bx_sat.specs.declared.solving.Answer.{Answer}
+use Rattle.bx_sat.specs.declared.solving.Answer.TheVariants.{Unsatisfiable}
 use Rattle.bx_sat.specs.Answers.{verdict_status, verdict_text, answer_status, answer_text}
-use Rattle.bx_sat.specs.Findings.{IsFound}
+use Rattle.bx_sat.specs.Findings.{used, IsEnd, IsFound}
 use Rattle.bx_sat.specs.Sayings.{EndsSaying, bad_line_text}
 use Rattle.bx_sat.specs.Verdicts.{IsVerdict}
+use Rattle.bx_sat.specs.Words.{Request, check, solve}
 
 abbrev pub usage_text : Text
 usage_text = codes "the words are check FORMULA PROOF or solve FORMULA BUDGET [PROOF]\n"
 
--- A run says what a proof is for a formula, or what was found of one, each as it was read from the files; or that a
--- line can't be read, or that the words are no command; or a file failed, or memory was refused. Before an answer a file
--- may have been written.
-pub data EndsRun (old new : DeskState) (result : SatStatus) : Type 0 where
+-- there is no answer: a line of the file of this name can't be read, or a file failed, or memory was refused
+pub data Unanswered (name : Text) (old new : DeskState) (result : SatStatus) : Type 0 where
+  unread : (line : ℕ) → EndsSaying old new BadLine (bad_line_text name line) result → Unanswered name old new result
+  broken : result ≡ Failed → Unanswered name old new result
+  refused : result ≡ NoMemory → Unanswered name old new result
+
+-- the proof of an answer is in the file that is to have it, and else nothing was written
+abbrev pub KeepsProof : DeskState → DeskState → Answer → Option Text → Type 0
+KeepsProof old new (Unsatisfiable log) (Some name) = (mid : DeskState) × Starts old mid name × Writes mid new (log_text log)
+KeepsProof old new answer name = new ≡ old
+
+-- it says what a proof is for a formula, each as it was read from the files of these names
+pub data EndsCheck (formula_name proof_name : Text) (old new : DeskState) (result : SatStatus) : Type 0 where
   checked : (formula : Formula) (proof : LratProof) (verdict : Verdict) → IsVerdict formula proof verdict
-      → EndsSaying old new (verdict_status verdict) (verdict_text verdict) result → EndsRun old new result
-  solved : (mid : DeskState) (formula : Formula) (vars : ℕ) (answer : Answer) → mid.said ≡ old.said → IsFound formula answer
-      → EndsSaying mid new (answer_status answer) (answer_text vars answer) result → EndsRun old new result
-  unread : (name : Text) (line : ℕ) → EndsSaying old new BadLine (bad_line_text name line) result → EndsRun old new result
-  unknown : EndsSaying old new Words usage_text result → EndsRun old new result
-  broken : result ≡ Failed → EndsRun old new result
-  refused : result ≡ NoMemory → EndsRun old new result
+      → EndsSaying old new (verdict_status verdict) (verdict_text verdict) result → EndsCheck formula_name proof_name old new result
+  no_formula : Unanswered formula_name old new result → EndsCheck formula_name proof_name old new result
+  no_proof : Unanswered proof_name old new result → EndsCheck formula_name proof_name old new result
+
+-- it says what the search of a formula ends with, within what is used of this budget, and before that keeps the proof;
+-- of a solution it says the values of the variables that the file declares, which the formula has
+pub data EndsSolve (name : Text) (budget : ℕ) (proof : Option Text) (old new : DeskState) (result : SatStatus) : Type 0 where
+  solved : (mid : DeskState) (formula : Formula) (vars : ℕ) (answer : Answer) → vars ≤ formula.vars
+      → IsEnd formula (used formula budget) answer → IsFound formula answer → KeepsProof old mid answer proof
+      → EndsSaying mid new (answer_status answer) (answer_text vars answer) result → EndsSolve name budget proof old new result
+  no_formula : Unanswered name old new result → EndsSolve name budget proof old new result
+
+-- What is asked for is done, or said to be wrong; and where nothing is asked for, the usage is said.
+abbrev pub EndsRun : Option Request → DeskState → DeskState → SatStatus → Type 0
+EndsRun (Some (check formula proof)) old new result = EndsCheck formula proof old new result
+EndsRun (Some (solve formula budget proof)) old new result = EndsSolve formula budget proof old new result
+EndsRun None old new result = EndsSaying old new Words usage_text result

@@ -1,4 +1,9 @@
 //! The words of a command line: a command with its files and its budget, or none.
+ghost use Rattle.std.specs.Prelude.{◌≡◌, option_map};
+ghost use Rattle.std.specs.List.{list_all};
+ghost use Rattle.std.specs.Char.{is_ascii_digit};
+ghost use Rattle.bx_sat.specs.Words.{texts, request_of, budget_of as budget_in};
+ghost use Rattle.bx_sat.specs.Commands.{asked};
 
 /// What is to be run.
 #[derive(Clone, Copy)]
@@ -17,8 +22,10 @@ pub(crate) enum Command<'a> {
 }
 
 impl<'a> Command<'a> {
-    /// The command of these words. A proof isn't written over its formula.
-    pub(crate) fn of_words(words: &'a [String]) -> Option<Self> {
+    /// The command that these words ask for, if they ask for one. A proof isn't written over its formula.
+    pub(crate) fn of_words(words: &'a [String]) -> Option<Self>
+        ensures { option_map asked result ≡ request_of (texts words.now) }
+    {
         match words {
             [verb, formula, proof] if verb.as_str() == "check" => Some(Command::Check {
                 formula: formula.as_str(),
@@ -41,11 +48,20 @@ impl<'a> Command<'a> {
     }
 }
 
-// The budget of a word: digits, up to 18,446,744,073,709,551,615.
-fn budget_of(word: &str) -> Option<u64> {
-    if word.as_bytes().iter().all(|byte| byte.is_ascii_digit()) {
+// The budget of a word: one digit or more, up to 18,446,744,073,709,551,615.
+fn budget_of(word: &str) -> Option<u64>
+    ensures { result ≡ budget_in word.now }
+{
+    if all_digits(word.as_bytes()) {
         word.parse::<u64>().ok()
     } else {
         None
     }
+}
+
+// Whether bytes are decimal digits.
+fn all_digits(bytes: &[u8]) -> bool
+    ensures { result ≡ list_all is_ascii_digit bytes.now }
+{
+    bytes.iter().all(|byte| byte.is_ascii_digit())
 }

@@ -2,8 +2,11 @@
 
 ghost use Rattle.std.specs.Prelude.{◌≡◌, ◌<◌, ℕ, length, OnOk};
 ghost use Rattle.bx_desk.specs.Desk.{DeskState, Starts, Writes};
+ghost use Rattle.bx_proof.specs.Steps.{StepList};
 ghost use Rattle.bx_proof.specs.Texts.{log_text};
-ghost use Rattle.bx_sat.specs.Runs.{EndsRun};
+ghost use Rattle.bx_sat.specs.Commands.{named};
+ghost use Rattle.bx_sat.specs.Runs.{EndsRun, EndsCheck, EndsSolve, KeepsProof, Unanswered};
+ghost use Rattle.bx_sat.specs.Words.{texts, request_of};
 
 use crate::checking::verify;
 use crate::command::Command;
@@ -19,10 +22,11 @@ use std::alloc::Global;
 // What is said where the words are no command.
 const USAGE: &[u8] = b"the words are check FORMULA PROOF or solve FORMULA BUDGET [PROOF]\n";
 
-/// Runs the command of the words: `check FORMULA PROOF` checks a proof, and `solve FORMULA BUDGET [PROOF]`
-/// solves a formula, and writes the proof where it has no solution.
+/// Does what the words ask for: `check FORMULA PROOF` checks a proof, and `solve FORMULA BUDGET [PROOF]`
+/// solves a formula, and writes the proof where it has no solution. Where they ask for nothing it says what
+/// the words are.
 pub fn run_sat<D: Desk>(alloc: Global, words: &[String], desk: &mut D) -> SatStatus
-    ensures { EndsRun (D.state desk.old) (D.state desk.new) result }
+    ensures { EndsRun (request_of (texts words.now)) (D.state desk.old) (D.state desk.new) result }
 {
     match Command::of_words(words) {
         Some(Command::Check { formula, proof }) => check_files(alloc, formula, proof, desk),
@@ -39,7 +43,7 @@ pub fn run_sat<D: Desk>(alloc: Global, words: &[String], desk: &mut D) -> SatSta
 
 // Checks the proof of a formula.
 fn check_files<D: Desk>(alloc: Global, formula: &str, proof: &str, desk: &mut D) -> SatStatus
-    ensures { EndsRun (D.state desk.old) (D.state desk.new) result }
+    ensures { EndsCheck formula.now proof.now (D.state desk.old) (D.state desk.new) result }
 {
     let read = match load_formula(alloc, formula, desk) {
         Ok(read) => read,
@@ -63,7 +67,7 @@ fn solve_file<D: Desk>(
     proof: Option<&str>,
     desk: &mut D,
 ) -> SatStatus
-    ensures { EndsRun (D.state desk.old) (D.state desk.new) result }
+    ensures { EndsSolve formula.now budget (named proof.entry) (D.state desk.old) (D.state desk.new) result }
 {
     let read = match load_formula(alloc, formula, desk) {
         Ok(read) => read,
@@ -73,19 +77,30 @@ fn solve_file<D: Desk>(
         Ok(answer) => answer,
         Err(NoMemory) => return SatStatus::NoMemory,
     };
-    if let (Answer::Unsatisfiable(steps), Some(name)) = (&answer, proof) {
-        if write_proof(steps, name, desk).is_err() {
-            return SatStatus::Failed;
-        }
+    if keep_proof(&answer, proof, desk).is_err() {
+        return SatStatus::Failed;
     }
     say_answer(&answer, read.vars, desk)
+}
+
+// Writes the proof of an answer that has one, where there is a file for it.
+fn keep_proof<D: Desk>(answer: &Answer, proof: Option<&str>, desk: &mut D) -> Result<(), Failed>
+    requires { (log : StepList) → answer.now ≡ Answer.Unsatisfiable log → 0 < length log.steps }
+    ensures { OnOk result (KeepsProof (D.state desk.old) (D.state desk.new) answer.now (named proof.entry)) }
+{
+    match answer {
+        Answer::Unsatisfiable(steps) => match proof {
+            Some(name) => write_proof(steps, name, desk),
+            None => Ok(()),
+        },
+        Answer::Satisfiable(_) | Answer::Unknown => Ok(()),
+    }
 }
 
 // Writes steps, of which there is one at least, into a file.
 fn write_proof<D: Desk>(steps: &Steps, name: &str, desk: &mut D) -> Result<(), Failed>
     requires { 0 < length steps.now.steps }
-    ensures written { OnOk result ((mid : DeskState) × Starts (D.state desk.old) mid name.now × Writes mid (D.state desk.new) (log_text steps.now)) }
-    ensures unsaid { (D.state desk.new).said ≡ (D.state desk.old).said }
+    ensures { OnOk result ((mid : DeskState) × Starts (D.state desk.old) mid name.now × Writes mid (D.state desk.new) (log_text steps.now)) }
 {
     desk.start(name)?;
     let mut piece = Piece::to_file();
@@ -95,7 +110,7 @@ fn write_proof<D: Desk>(steps: &Steps, name: &str, desk: &mut D) -> Result<(), F
 
 // Says why a file wasn't read.
 fn say_unread<D: Desk>(name: &str, fault: Unread, desk: &mut D) -> SatStatus
-    ensures { (old : DeskState) → ((line : ℕ) → fault ≡ Unread.BadLine line → D.state desk.old ≡ old) → EndsRun old (D.state desk.new) result }
+    ensures { (old : DeskState) → ((line : ℕ) → fault ≡ Unread.BadLine line → D.state desk.old ≡ old) → Unanswered name.now old (D.state desk.new) result }
 {
     match fault {
         Unread::BadLine(line) => say_bad_line(name, line, desk),

@@ -1,6 +1,6 @@
 -- A text that was put out to be said, and what the end of a run says then.
-use Rattle.std.proofs.Common.{◌≡◌, ℕ, false, true≢false, List, [], ◌++◌, Result, Ok, Err, OnOk, sym, ◌∙◌, subst, refl}
-use Rattle.std.specs.Prelude.{is_err}
+use Rattle.std.proofs.Common.{◌≡◌, ℕ, true, false, true≢false, List, [], ◌++◌, Result, Ok, Err, OnOk, sym, ◌∙◌, subst, refl}
+use Rattle.std.specs.Prelude.{is_err, OnErr}
 use Rattle.std.proofs.lemmas.List.{append-nil}
 use Rattle.bx_desk.specs.Desk.{DeskState, Says, PutsFront}
 use Rattle.bx_desk.specs.Pieces.{pending, target_of, PutsUpTo, HandsOn, PutsOut}
@@ -49,3 +49,8 @@ says_ends_failed {T} old new first e status p0 p1 text empty is err a =
 pub kept : {T E : Type 0} (r : Result T E) (P : Type 0) → is_err r ≡ false → OnOk r P → P
 kept (Ok x) P none h = h
 kept (Err e) P none h = absurd (true≢false none)
+
+-- what holds where there is an error, where there is one
+pub unkept_is : {T E : Type 0} (r : Result T E) (P : Type 0) → is_err r ≡ true → OnErr r P → P
+unkept_is (Ok x) P some h = absurd (true≢false (sym some))
+unkept_is (Err e) P some h = h

@@ -1,4 +1,5 @@
 pub mod Endings
+pub mod Writing
 pub mod Values
 pub mod Stopping
 pub mod Budgets

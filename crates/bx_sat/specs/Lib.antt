@@ -4,5 +4,6 @@ pub mod Verdicts
 pub mod Findings
 pub mod Sayings
 pub mod Answers
+pub mod Files
 pub mod Runs
 pub mod Commands

@@ -11,6 +11,7 @@ use Rattle.bx_sat.specs.declared.checking.Verdict.{Verdict}
 use Rattle.bx_sat.specs.declared.solving.Answer.{Answer}
 use Rattle.bx_sat.specs.declared.solving.Answer.TheVariants.{Unsatisfiable}
 use Rattle.bx_sat.specs.Answers.{verdict_status, verdict_text, answer_status, answer_text}
+use Rattle.bx_sat.specs.Files.{FailsToRead, FailsToWrite}
 use Rattle.bx_sat.specs.Findings.{used, IsEnd, IsFound}
 use Rattle.bx_sat.specs.Sayings.{EndsSaying, bad_line_text}
 use Rattle.bx_sat.specs.Verdicts.{IsVerdict}
@@ -19,16 +20,22 @@ use Rattle.bx_sat.specs.Words.{Request, check, solve}
 abbrev pub usage_text : Text
 usage_text = codes "the words are check FORMULA PROOF or solve FORMULA BUDGET [PROOF]\n"
 
--- there is no answer: a line of the file of this name can't be read, or a file failed, or memory was refused
+-- there is no answer: a line of the file of this name can't be read, which is said; or the file can't, or memory was
+-- refused, and nothing is written or said
 pub data Unanswered (name : Text) (old new : DeskState) (result : SatStatus) : Type 0 where
   unread : (line : ℕ) → EndsSaying old new BadLine (bad_line_text name line) result → Unanswered name old new result
-  broken : result ≡ Failed → Unanswered name old new result
-  refused : result ≡ NoMemory → Unanswered name old new result
+  broken : FailsToRead old new name → result ≡ Failed → Unanswered name old new result
+  refused : new ≡ old → result ≡ NoMemory → Unanswered name old new result
 
 -- the proof of an answer is in the file that is to have it, and else nothing was written
 abbrev pub KeepsProof : DeskState → DeskState → Answer → Option Text → Type 0
 KeepsProof old new (Unsatisfiable log) (Some name) = (mid : DeskState) × Starts old mid name × Writes mid new (log_text log)
 KeepsProof old new answer name = new ≡ old
+
+-- there is one, and it couldn't be written
+abbrev pub FailsToKeep : DeskState → DeskState → Answer → Option Text → Type 0
+FailsToKeep old new (Unsatisfiable log) (Some name) = FailsToWrite old new name (log_text log)
+FailsToKeep old new answer name = ⊥
 
 -- it says what a proof is for a formula, each as it was read from the files of these names
 pub data EndsCheck (formula_name proof_name : Text) (old new : DeskState) (result : SatStatus) : Type 0 where
@@ -38,11 +45,14 @@ pub data EndsCheck (formula_name proof_name : Text) (old new : DeskState) (resul
   no_proof : Unanswered proof_name old new result → EndsCheck formula_name proof_name old new result
 
 -- it says what the search of a formula ends with, within what is used of this budget, and before that keeps the proof;
--- of a solution it says the values of the variables that the file declares, which the formula has
+-- of a solution it says the values of the variables that the file declares, which the formula has; where the proof
+-- can't be kept, it says nothing
 pub data EndsSolve (name : Text) (budget : ℕ) (proof : Option Text) (old new : DeskState) (result : SatStatus) : Type 0 where
   solved : (mid : DeskState) (formula : Formula) (vars : ℕ) (answer : Answer) → vars ≤ formula.vars
       → IsEnd formula (used formula budget) answer → IsFound formula answer → KeepsProof old mid answer proof
       → EndsSaying mid new (answer_status answer) (answer_text vars answer) result → EndsSolve name budget proof old new result
+  unkept : (formula : Formula) (answer : Answer) → IsEnd formula (used formula budget) answer → IsFound formula answer
+      → FailsToKeep old new answer proof → result ≡ Failed → EndsSolve name budget proof old new result
   no_formula : Unanswered name old new result → EndsSolve name budget proof old new result
 
 -- What is asked for is done, or said to be wrong; and where nothing is asked for, the usage is said.

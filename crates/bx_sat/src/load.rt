@@ -1,6 +1,7 @@
-//! Reading the two files of a run.
+//! Reading the two files of a run. Only a load that fails changes the desk, and then its count of such failures alone.
 
-ghost use Rattle.std.specs.Prelude.{◌≡◌, ◌≢◌, ◌+◌, ◌≤◌, ℕ, length, Err, IfOk, OnOk};
+ghost use Rattle.std.specs.Prelude.{◌≡◌, ◌+◌, ◌≤◌, length, IfOk, IfErr, OnOk};
+ghost use Rattle.bx_sat.specs.Files.{LeavesUnread};
 
 use bx_cnf::Clauses;
 use bx_desk::{Desk, LoadFault};
@@ -29,7 +30,7 @@ pub(crate) fn load_formula<D: Desk>(
 ) -> Result<DimacsFormula, Unread>
     ensures declared { IfOk result (λ formula. formula.vars ≤ formula.clauses.vars) }
     ensures ok_stays { OnOk result (D.state desk.new ≡ D.state desk.old) }
-    ensures bad_stays { (line : ℕ) → result ≡ Err (Unread.BadLine line) → D.state desk.new ≡ D.state desk.old }
+    ensures err { IfErr result (LeavesUnread (D.state desk.old) (D.state desk.new) name.now) }
 {
     let text = load(alloc, name, desk)?;
     read_formula(alloc, &text).map_err(|fault| match fault {
@@ -48,7 +49,7 @@ pub(crate) fn load_proof<D: Desk>(
     ensures numbered { IfOk result (λ proof. proof.steps.first ≡ length clauses.now.clauses + 1) }
     ensures named { IfOk result (λ proof. length proof.ids.items ≡ length proof.steps.steps) }
     ensures ok_stays { OnOk result (D.state desk.new ≡ D.state desk.old) }
-    ensures bad_stays { (line : ℕ) → result ≡ Err (Unread.BadLine line) → D.state desk.new ≡ D.state desk.old }
+    ensures err { IfErr result (LeavesUnread (D.state desk.old) (D.state desk.new) name.now) }
 {
     let text = load(alloc, name, desk)?;
     read_proof(alloc, clauses, &text).map_err(|fault| match fault {
@@ -60,12 +61,13 @@ pub(crate) fn load_proof<D: Desk>(
 // The bytes of a file.
 fn load<D: Desk>(alloc: Global, name: &str, desk: &mut D) -> Result<Vec<u8>, Unread>
     ensures ok_stays { OnOk result (D.state desk.new ≡ D.state desk.old) }
-    ensures no_line { (line : ℕ) → result ≢ Err (Unread.BadLine line) }
+    ensures err { IfErr result (LeavesUnread (D.state desk.old) (D.state desk.new) name.now) }
 {
     let mut text = Vec::new(alloc);
     match desk.load(name, LONGEST, &mut text) {
         Ok(()) => Ok(text),
-        Err(LoadFault::Failed | LoadFault::TooLong) => Err(Unread::Failed),
+        Err(LoadFault::Failed) => Err(Unread::Failed),
+        Err(LoadFault::TooLong) => Err(Unread::Failed),
         Err(LoadFault::NoMemory) => Err(Unread::NoMemory),
     }
 }

@@ -1,11 +1,12 @@
 //! The one call that the program makes: from its words to what is said, and a status.
 
-ghost use Rattle.std.specs.Prelude.{◌≡◌, ◌<◌, ℕ, length, OnOk};
-ghost use Rattle.bx_desk.specs.Desk.{DeskState, Starts, Writes};
+ghost use Rattle.std.specs.Prelude.{◌≡◌, ◌<◌, length, IsSome, OnOk, OnErr};
+ghost use Rattle.bx_desk.specs.Desk.{DeskState, Starts, Writes, WritesFront};
 ghost use Rattle.bx_proof.specs.Steps.{StepList};
 ghost use Rattle.bx_proof.specs.Texts.{log_text};
 ghost use Rattle.bx_sat.specs.Commands.{named};
-ghost use Rattle.bx_sat.specs.Runs.{EndsRun, EndsCheck, EndsSolve, KeepsProof, Unanswered};
+ghost use Rattle.bx_sat.specs.Files.{LeavesUnread, FailsToWrite};
+ghost use Rattle.bx_sat.specs.Runs.{EndsRun, EndsCheck, EndsSolve, KeepsProof, FailsToKeep, Unanswered};
 ghost use Rattle.bx_sat.specs.Words.{texts, request_of};
 
 use crate::checking::verify;
@@ -86,7 +87,8 @@ fn solve_file<D: Desk>(
 // Writes the proof of an answer that has one, where there is a file for it.
 fn keep_proof<D: Desk>(answer: &Answer, proof: Option<&str>, desk: &mut D) -> Result<(), Failed>
     requires { (log : StepList) → answer.now ≡ Answer.Unsatisfiable log → 0 < length log.steps }
-    ensures { OnOk result (KeepsProof (D.state desk.old) (D.state desk.new) answer.now (named proof.entry)) }
+    ensures ok { OnOk result (KeepsProof (D.state desk.old) (D.state desk.new) answer.now (named proof.entry)) }
+    ensures err { OnErr result (FailsToKeep (D.state desk.old) (D.state desk.new) answer.now (named proof.entry)) }
 {
     match answer {
         Answer::Unsatisfiable(steps) => match proof {
@@ -100,17 +102,30 @@ fn keep_proof<D: Desk>(answer: &Answer, proof: Option<&str>, desk: &mut D) -> Re
 // Writes steps, of which there is one at least, into a file.
 fn write_proof<D: Desk>(steps: &Steps, name: &str, desk: &mut D) -> Result<(), Failed>
     requires { 0 < length steps.now.steps }
-    ensures { OnOk result ((mid : DeskState) × Starts (D.state desk.old) mid name.now × Writes mid (D.state desk.new) (log_text steps.now)) }
+    ensures ok { OnOk result ((mid : DeskState) × Starts (D.state desk.old) mid name.now × Writes mid (D.state desk.new) (log_text steps.now)) }
+    ensures err { OnErr result (FailsToWrite (D.state desk.old) (D.state desk.new) name.now (log_text steps.now)) }
 {
     desk.start(name)?;
+    put_proof(steps, desk)
+}
+
+// Writes steps, of which there is one at least, into the started file.
+fn put_proof<D: Desk>(steps: &Steps, desk: &mut D) -> Result<(), Failed>
+    requires some { 0 < length steps.now.steps }
+    requires started { IsSome (D.state desk.old).started }
+    ensures ok { OnOk result (Writes (D.state desk.old) (D.state desk.new) (log_text steps.now)) }
+    ensures err { OnErr result (WritesFront (D.state desk.old) (D.state desk.new) (log_text steps.now)) }
+{
     let mut piece = Piece::to_file();
-    write_steps(steps, &mut piece, desk)?;
-    piece.end(desk)
+    match write_steps(steps, &mut piece, desk) {
+        Ok(()) => piece.end(desk),
+        Err(Failed) => Err(Failed),
+    }
 }
 
 // Says why a file wasn't read.
 fn say_unread<D: Desk>(name: &str, fault: Unread, desk: &mut D) -> SatStatus
-    ensures { (old : DeskState) → ((line : ℕ) → fault ≡ Unread.BadLine line → D.state desk.old ≡ old) → Unanswered name.now old (D.state desk.new) result }
+    ensures { (old : DeskState) → LeavesUnread old (D.state desk.old) name.now fault → Unanswered name.now old (D.state desk.new) result }
 {
     match fault {
         Unread::BadLine(line) => say_bad_line(name, line, desk),

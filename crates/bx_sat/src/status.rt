@@ -17,9 +17,9 @@ pub enum SatStatus {
     Unsatisfiable,
     /// The budget ended, and that was said.
     Unknown,
-    /// A file could not be read, or a file or output could not be written.
+    /// A file could not be read or is too long, or a file or output could not be written.
     Failed,
-    /// Memory was refused. Nothing was said.
+    /// Memory was refused. Nothing was written or said.
     NoMemory,
     /// The words are no command, and the usage was said.
     Words,

@@ -18,8 +18,8 @@ find_files() {
     net=${names[0]-} cert=${names[1]-}
 }
 
-# Whether CERT is the file NET, under another name.
+# Whether the words ask for a design whose CERT is the file NET, under another name.
 is_one_file() {
     find_files "$@"
-    [[ -n $net && -n $cert && $net != "$cert" && $net -ef $cert ]]
+    [[ ${1-} == design && -n $net && -n $cert && $net != "$cert" && $net -ef $cert ]]
 }

@@ -36,7 +36,7 @@ use Rattle.bx_design.specs.declared.ending.Ending.{Ending}
 use Rattle.bx_design.specs.declared.ending.Ending.TheVariants.{Found, Undecided, NoneWithin}
 use Rattle.bx_design.specs.Certificates.{sections_of}
 use Rattle.bx_design.specs.Designs.{IsDesign, IsEndingOf}
-use Rattle.bx_design.specs.Meaning.{AreSections, IsGood, IsEndAt, IsMinimal}
+use Rattle.bx_design.specs.Meaning.{AreSections, IsLaidOut, IsEndAt, IsMinimal}
 use Rattle.bx_design.proofs.Formed.{formed}
 use Rattle.bx_design.proofs.Grids.{whole-grid}
 use Rattle.bx_design.proofs.Sections.{same-some}
@@ -100,7 +100,7 @@ module _ (N : Network) (permit : PermitTest) (budget : ℕ) where
 
   -- ---- the end
 
-  good : (L : Layout) (g : FormGrid) → IsNetwork N → IsLegal N permit L → IsFormGridOf N L g → IsGood N permit L g
+  good : (L : Layout) (g : FormGrid) → IsNetwork N → IsLegal N permit L → IsFormGridOf N L g → IsLaidOut N permit L g
   good L g network is_legal forms = record {
     legal = is_legal;
     forms = forms;

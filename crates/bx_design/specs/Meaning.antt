@@ -32,7 +32,7 @@ module _ (N : Network) (permit : PermitTest) where
 
   -- the layout is legal, and its grid of forms is sound and computes the network, however many inputs the
   -- module has
-  pub record IsGood (L : Layout) (g : FormGrid) : Type 0 where
+  pub record IsLaidOut (L : Layout) (g : FormGrid) : Type 0 where
     pub legal : IsLegal N permit L
     pub forms : IsFormGridOf N L g
     pub whole : IsFormGrid g
@@ -41,7 +41,7 @@ module _ (N : Network) (permit : PermitTest) where
 
   -- the ratio of the end is the one at this index, or there is none at it
   abbrev pub IsEndAt : Limits → ℕ → ℕ → Ending → Type 0
-  IsEndAt limits budget k (Found L g) = (slice_get (order limits) k ≡ Some L.ratio) × IsGood L g
+  IsEndAt limits budget k (Found L g) = (slice_get (order limits) k ≡ Some L.ratio) × IsLaidOut L g
   IsEndAt limits budget k (Undecided r spent) = (slice_get (order limits) k ≡ Some r) × IsVerdict N permit r budget (IsUndecided spent)
   IsEndAt limits budget k NoneWithin = k ≡ length (order limits)
 

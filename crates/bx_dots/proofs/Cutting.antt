@@ -20,7 +20,7 @@ use Rattle.bx_dots.specs.declared.fault.CutFault.{CutFault}
 use Rattle.bx_dots.specs.declared.fault.CutFault.TheVariants.{StrayDot, StrangeTile, NoMemory}
 use Rattle.bx_dots.specs.Places.{moved, LiesIn}
 use Rattle.bx_dots.specs.GridDots.{dots_in, AreOffered, AreDotsOf}
-use Rattle.bx_dots.specs.Cuts.{group_of_row, AreOwn, MayStand, ReadsAs, NoneStray, IsCut, IsFirstStray, IsFirstStrange, Gives}
+use Rattle.bx_dots.specs.Cuts.{group_of_row, AreOwn, MayStand, ReadsAs, NoneStray, IsCut, IsFirstStray, IsFirstStrange, CutsTo}
 use Rattle.bx_dots.specs.Reading.{IsStrangeFault}
 use Rattle.bx_dots.proofs.Geometry.{one_tile, moved_lies, moved_one}
 
@@ -92,7 +92,7 @@ one_strange lib r dots t u a b = elim (cases_order t u) [
   ]
 ]
 
-pub one_gift : (lib : Tiles) (r : Ratio) (dots : List Dot) (a b : Result FormGrid CutFault) → IsLibrary lib → Gives lib r dots a → Gives lib r dots b → a ≡ b
+pub one_gift : (lib : Tiles) (r : Ratio) (dots : List Dot) (a b : Result FormGrid CutFault) → IsLibrary lib → CutsTo lib r dots a → CutsTo lib r dots b → a ≡ b
 one_gift lib r dots (Ok g) (Ok h) kept a b = ap Ok (one_cut lib r dots g h kept a b)
 one_gift lib r dots (Ok g) (Err (StrayDot d)) kept a b = absurd (a.inside d b.has b.stray)
 one_gift lib r dots (Ok g) (Err (StrangeTile t)) kept a b = absurd (b.strange (form_at g t) (a.tiles t b.tile))
@@ -191,13 +191,13 @@ cut_of_dots lib g dots kept whole sound offered are = record {
 -- ---- what a call answers
 
 pub exact : (lib : Tiles) (r : Ratio) (dots : List Dot) (answer s : Result FormGrid CutFault) → (answer ≢ Err NoMemory → IsLibrary lib)
-    → IfOk answer (λ g. Gives lib r dots (Ok g)) → IfErr answer (λ fault. fault ≢ NoMemory → Gives lib r dots (Err fault))
-    → Gives lib r dots s → answer ≢ Err NoMemory → answer ≡ s
+    → IfOk answer (λ g. CutsTo lib r dots (Ok g)) → IfErr answer (λ fault. fault ≢ NoMemory → CutsTo lib r dots (Err fault))
+    → CutsTo lib r dots s → answer ≢ Err NoMemory → answer ≡ s
 exact lib r dots (Ok g) s kept found faults gives other = one_gift lib r dots (Ok g) s (kept other) found gives
 exact lib r dots (Err fault) s kept found faults gives other = one_gift lib r dots (Err fault) s (kept other) (faults (λ e. other (ap (λ x. Err x) e))) gives
 
 pub exact_back : (lib : Tiles) (r : Ratio) (dots : List Dot) (answer : Result FormGrid CutFault) → (answer ≢ Err NoMemory → IsLibrary lib)
-    → ((s : Result FormGrid CutFault) → Gives lib r dots s → answer ≢ Err NoMemory → answer ≡ s)
+    → ((s : Result FormGrid CutFault) → CutsTo lib r dots s → answer ≢ Err NoMemory → answer ≡ s)
     → (g : FormGrid) → g.ratio ≡ r → length g.tiles ≡ tile_count r → IsSound g → AreOffered lib g → AreDotsOf lib g dots → answer ≢ Err NoMemory → answer ≡ Ok g
 exact_back lib r dots answer kept answers g ratio whole sound offered are other =
     answers (Ok g)
@@ -205,9 +205,9 @@ exact_back lib r dots answer kept answers g ratio whole sound offered are other 
     (cut_of_dots lib g dots (kept other) (whole ∙ ap tile_count (sym ratio)) sound offered are))
     other
 
-pub strange_gives : (lib : Tiles) (r : Ratio) (dots : List Dot) (fault : CutFault) → NoneStray lib r dots → IsStrangeFault lib r dots fault → Gives lib r dots (Err fault)
-strange_gives lib r dots fault none s = subst (λ f. Gives lib r dots (Err f)) (sym s.is) (record { inside = none; tile = s.inside; strange = s.strange; first = s.first })
+pub strange_gives : (lib : Tiles) (r : Ratio) (dots : List Dot) (fault : CutFault) → NoneStray lib r dots → IsStrangeFault lib r dots fault → CutsTo lib r dots (Err fault)
+strange_gives lib r dots fault none s = subst (λ f. CutsTo lib r dots (Err f)) (sym s.is) (record { inside = none; tile = s.inside; strange = s.strange; first = s.first })
 
-pub exact_fault : (lib : Tiles) (r : Ratio) (dots : List Dot) (answer s : Result FormGrid CutFault) (fault : CutFault) → answer ≡ Err fault → (answer ≢ Err NoMemory → IsLibrary lib) → (fault ≢ NoMemory → Gives lib r dots (Err fault))
-    → Gives lib r dots s → answer ≢ Err NoMemory → answer ≡ s
+pub exact_fault : (lib : Tiles) (r : Ratio) (dots : List Dot) (answer s : Result FormGrid CutFault) (fault : CutFault) → answer ≡ Err fault → (answer ≢ Err NoMemory → IsLibrary lib) → (fault ≢ NoMemory → CutsTo lib r dots (Err fault))
+    → CutsTo lib r dots s → answer ≢ Err NoMemory → answer ≡ s
 exact_fault lib r dots answer s fault is kept told gives other = is ∙ one_gift lib r dots (Err fault) s (kept other) (told (λ e. other (is ∙ ap (λ x. Err x) e))) gives

@@ -62,8 +62,8 @@ pub record IsFirstStrange (lib : Tiles) (r : Ratio) (dots : List Dot) (t : ℕ) 
   pub first : (u : ℕ) → u < t → IsStrange lib r dots u → ⊥
 
 -- what cutting a set of dots gives: a form grid, or the first thing that is in the way of one
-abbrev pub Gives : Tiles → Ratio → List Dot → Result FormGrid CutFault → Type 0
-Gives lib r dots (Ok g) = IsCut lib r dots g
-Gives lib r dots (Err (StrayDot dot)) = IsFirstStray lib r dots dot
-Gives lib r dots (Err (StrangeTile t)) = IsFirstStrange lib r dots t
-Gives lib r dots (Err NoMemory) = ⊥
+abbrev pub CutsTo : Tiles → Ratio → List Dot → Result FormGrid CutFault → Type 0
+CutsTo lib r dots (Ok g) = IsCut lib r dots g
+CutsTo lib r dots (Err (StrayDot dot)) = IsFirstStray lib r dots dot
+CutsTo lib r dots (Err (StrangeTile t)) = IsFirstStrange lib r dots t
+CutsTo lib r dots (Err NoMemory) = ⊥

@@ -9,7 +9,7 @@ ghost use Rattle.bx_library.specs.Dots.{IsAscending};
 ghost use Rattle.bx_library.specs.Tiles.{IsLibrary};
 ghost use Rattle.bx_dots.specs.declared.fault.CutFault.{CutFault as Fault};
 ghost use Rattle.bx_dots.specs.GridDots.{AreOffered, AreDotsOf};
-ghost use Rattle.bx_dots.specs.Cuts.{NoneStray, ReadsAs, Gives};
+ghost use Rattle.bx_dots.specs.Cuts.{NoneStray, ReadsAs, CutsTo};
 ghost use Rattle.bx_dots.specs.Reading.{IsStrangeFault};
 
 use crate::CutFault;
@@ -41,11 +41,11 @@ pub fn cut(
     requires height { ratio.h ≤ MOST_LIMIT }
     requires ascending { IsAscending dots.now }
     // The grid that is answered is the one that the dots are cut into.
-    ensures found { IfOk result (λ grid. Gives library.now ratio dots.now (Ok grid)) }
+    ensures found { IfOk result (λ grid. CutsTo library.now ratio dots.now (Ok grid)) }
     // The fault that is answered is the first one.
-    ensures faults { IfErr result (λ fault. fault ≢ CutFault.NoMemory → Gives library.now ratio dots.now (Err fault)) }
+    ensures faults { IfErr result (λ fault. fault ≢ CutFault.NoMemory → CutsTo library.now ratio dots.now (Err fault)) }
     // What cutting gives is answered, unless memory runs out.
-    ensures exact { (r : Result Grid Fault) → Gives library.now ratio dots.now r → result ≢ Err CutFault.NoMemory → result ≡ r }
+    ensures exact { (r : Result Grid Fault) → CutsTo library.now ratio dots.now r → result ≢ Err CutFault.NoMemory → result ≡ r }
     // The dots of a sound grid give this grid.
     ensures back { (grid : Grid) → grid.ratio ≡ ratio → length grid.tiles ≡ tile_count ratio → IsSound grid → AreOffered library.now grid → AreDotsOf library.now grid dots.now → result ≢ Err CutFault.NoMemory → result ≡ Ok grid }
 {
@@ -59,7 +59,7 @@ fn refuse_strays(library: &Library, ratio: Ratio, dots: &[Dot]) -> Result<(), Cu
     requires grid { IsGrid ratio }
     requires ascending { IsAscending dots.now }
     ensures none { OnOk result (NoneStray library.now ratio dots.now) }
-    ensures err { IfErr result (λ fault. Gives library.now ratio dots.now (Err fault)) }
+    ensures err { IfErr result (λ fault. CutsTo library.now ratio dots.now (Err fault)) }
     ensures kept { OnErr result (IsLibrary library.now) }
 {
     for dot in dots {

@@ -7,7 +7,7 @@ ghost use Rattle.bx_layout.specs.Grids.{FormGrid, IsSound};
 ghost use Rattle.bx_library.specs.declared.dot.Dot.{Dot};
 ghost use Rattle.bx_library.specs.Tiles.{Tiles, IsLibrary};
 ghost use Rattle.bx_dots.specs.declared.fault.CutFault.{CutFault};
-ghost use Rattle.bx_dots.specs.Cuts.{Gives, IsCut};
+ghost use Rattle.bx_dots.specs.Cuts.{CutsTo, IsCut};
 ghost use Rattle.bx_dots.specs.GridDots.{AreOffered, IsDotOf, AreDotsOf, IsNear};
 ghost use Rattle.bx_dots.specs.Places.{LiesIn};
 
@@ -23,7 +23,7 @@ pub fn a_dot_of_a_grid_stands_near()
 
 /// A set of dots is cut into one form grid, or one thing is in the way of one.
 pub fn a_set_of_dots_has_one_cut()
-    ensures { (lib : Tiles) (ratio : Ratio) (dots : List Dot) (r s : Result FormGrid CutFault) → IsLibrary lib → Gives lib ratio dots r → Gives lib ratio dots s → r ≡ s }
+    ensures { (lib : Tiles) (ratio : Ratio) (dots : List Dot) (r s : Result FormGrid CutFault) → IsLibrary lib → CutsTo lib ratio dots r → CutsTo lib ratio dots s → r ≡ s }
 {}
 
 /// The dots of a sound grid are cut into this grid.

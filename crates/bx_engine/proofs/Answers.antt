@@ -15,7 +15,7 @@ use Rattle.bx_engine.specs.declared.status.InputFault.{InputFault}
 use Rattle.bx_engine.specs.declared.status.Status.{Status}
 use Rattle.bx_engine.specs.declared.status.Status.TheVariants.{Words, Refused}
 use Rattle.bx_engine.specs.Said.{word_fault_text, input_fault_text}
-use Rattle.bx_engine.specs.Statuses.{IsSettled, IsSearched, status_of}
+use Rattle.bx_engine.specs.Statuses.{IsSettled, HasSearched, status_of}
 use Rattle.bx_engine.specs.Tasks.{Task, IsTask}
 use Rattle.bx_engine.specs.Texts.{network_of}
 use Rattle.bx_engine.specs.Answers.{Answer, Written, IsAnswerTo, IsAnswer, refusal, designed, refused, searched, misused, answered}
@@ -29,7 +29,7 @@ status_settled (FoundIn L g) = tt
 status_settled (UndecidedAt ratio spent) = tt
 status_settled NoneIn = tt
 
-pub status_searched : (end : Ending) → IsSearched (status_of end)
+pub status_searched : (end : Ending) → HasSearched (status_of end)
 status_searched (FoundIn L g) = tt
 status_searched (UndecidedAt ratio spent) = tt
 status_searched NoneIn = tt

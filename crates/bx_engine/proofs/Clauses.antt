@@ -20,7 +20,7 @@ use Rattle.bx_engine.specs.declared.status.Status.TheVariants.{Found, Undecided,
 use Rattle.bx_engine.specs.declared.status.Which.{Which}
 use Rattle.bx_engine.specs.declared.status.Which.TheVariants.{NetFile}
 use Rattle.bx_engine.specs.Said.{ending_text, refusal_text, word_fault_text, input_fault_text}
-use Rattle.bx_engine.specs.Statuses.{IsSettled, IsSearched, status_of}
+use Rattle.bx_engine.specs.Statuses.{IsSettled, HasSearched, status_of}
 use Rattle.bx_engine.specs.Tasks.{Task, IsTask, AreTold, IsToldText, IsThere}
 use Rattle.bx_engine.specs.Texts.{IsRefused, IsTaken, network_of}
 use Rattle.bx_engine.specs.Answers.{Answer, Written, IsAnswerTo, IsAnswer, refusal, designed, refused as refused_for, searched as searched_so, misused, answered as answers}
@@ -38,14 +38,14 @@ use Rattle.bx_engine.proofs.Worth.{found-is, undecided-is, none-is}
 module _ (task : Task) (text : Text) where
   no_words : (a : Answer) (fault : WordFault) → IsAnswerTo task text a → a.status ≡ Words fault → ⊥
   no_words _ fault (refused_for f is) e = let lost : Refused f ≡ Words fault = e in cc
-  no_words _ fault (searched_so m cert end taken design) e = subst IsSearched e (status_searched end)
+  no_words _ fault (searched_so m cert end taken design) e = subst HasSearched e (status_searched end)
 
   refused_of : (a : Answer) (fault : InputFault) → IsAnswerTo task text a → a.status ≡ Refused fault → IsRefused text fault
   refused_of _ fault (refused_for f is) e =
       let both : Refused f ≡ Refused fault = e in
       let same : f ≡ fault = cc in
       subst (IsRefused text) same is
-  refused_of _ fault (searched_so m cert end taken design) e = absurd (subst IsSearched e (status_searched end))
+  refused_of _ fault (searched_so m cert end taken design) e = absurd (subst HasSearched e (status_searched end))
 
   refused_gives : (a : Answer) (fault : InputFault) → IsAnswerTo task text a → IsRefused text fault → a.status ≡ Refused fault
   refused_gives _ fault (refused_for f is) h = ap Refused (refused_once text f fault is h)
@@ -58,7 +58,7 @@ module _ (task : Task) (text : Text) where
     pub design : IsDesign (network_of m) all_forms task.limits task.budget cert end
     pub same : a ≡ designed task m cert end
 
-  searched_of : (a : Answer) → IsAnswerTo task text a → IsSearched a.status → (m : ModuleTree) × IsTaken text m × IsDesigned m a
+  searched_of : (a : Answer) → IsAnswerTo task text a → HasSearched a.status → (m : ModuleTree) × IsTaken text m × IsDesigned m a
   searched_of _ (refused_for f is) searched = absurd searched
   searched_of _ (searched_so m cert end taken design) searched = (m, taken, record { cert = cert; end = end; design = design; same = refl })
 
@@ -142,7 +142,7 @@ module _ (words : List Text) (old new : DeskState) where
       let both : Refused f ≡ Refused fault = e in
       let same : f ≡ fault = cc in
       subst (λ (x : InputFault). Says old new (refusal_text (input_fault_text x))) same (said_refusal (Refused f) (input_fault_text f) gives)
-  said_to_text task text _ fault (searched_so m cert end taken design) e gives = absurd (subst IsSearched e (status_searched end))
+  said_to_text task text _ fault (searched_so m cert end taken design) e gives = absurd (subst HasSearched e (status_searched end))
 
   said_of_text : (files : Files) (a : Answer) (fault : InputFault) → IsAnswer words files a → a.status ≡ Refused fault → Gives old new a → Says old new (refusal_text (input_fault_text fault))
   said_of_text files _ fault (misused f is) e gives = let lost : Words f ≡ Refused fault = e in absurd (cc)
@@ -200,13 +200,13 @@ module _ (words : List Text) (old new : DeskState) where
           has_given = it_has_given m is.cert is.end (subst (λ (a : Answer). Gives old new a) is.same was.gives);
         }
 
-    pub searched_only : (r : Status) → Outcome words old new r → IsSearched r → (m : ModuleTree) × IsTaken text m × ((cert : Certificate) × (end : Ending) × IsDesign (network_of m) all_forms task.limits task.budget cert end × (r ≡ status_of end))
+    pub searched_only : (r : Status) → Outcome words old new r → HasSearched r → (m : ModuleTree) × IsTaken text m × ((cert : Certificate) × (end : Ending) × IsDesign (network_of m) all_forms task.limits task.budget cert end × (r ≡ status_of end))
     searched_only r o searched =
         let was = was_given r o (settled r searched) in
-        let is = searched_of task text was.answer (to_told was.answer was.has) (subst IsSearched was.same searched) in
+        let is = searched_of task text was.answer (to_told was.answer was.has) (subst HasSearched was.same searched) in
         (is.0, is.1, (is.2.cert, is.2.end, is.2.design, was.same ∙ ap (λ (a : Answer). a.status) is.2.same))
       where
-        settled : (s : Status) → IsSearched s → IsSettled s
+        settled : (s : Status) → HasSearched s → IsSettled s
         settled (Found ratio) h = tt
         settled (Refused fault) h = tt
         settled (Undecided ratio spent) h = tt

@@ -27,15 +27,15 @@ IsSettled NoMemory = ⊥
 IsSettled (Words fault) = ⊤
 
 -- the ratios were searched
-abbrev pub IsSearched : Status → Type 0
-IsSearched (Found ratio) = ⊤
-IsSearched (Refused fault) = ⊥
-IsSearched (Undecided ratio spent) = ⊤
-IsSearched NoneWithin = ⊤
-IsSearched (ReadFault which) = ⊥
-IsSearched (WriteFault which) = ⊥
-IsSearched NoMemory = ⊥
-IsSearched (Words fault) = ⊥
+abbrev pub HasSearched : Status → Type 0
+HasSearched (Found ratio) = ⊤
+HasSearched (Refused fault) = ⊥
+HasSearched (Undecided ratio spent) = ⊤
+HasSearched NoneWithin = ⊤
+HasSearched (ReadFault which) = ⊥
+HasSearched (WriteFault which) = ⊥
+HasSearched NoMemory = ⊥
+HasSearched (Words fault) = ⊥
 
 -- the status of how the search ended
 abbrev pub status_of : Ending → Status

@@ -24,7 +24,7 @@ ghost use Rattle.bx_engine.specs.Answers.{Answer, IsAnswer};
 ghost use Rattle.bx_engine.specs.Effects.{Gives, HasGiven, FailsToGive, WritesFile, FailsToWrite, NoneFell, RoseAt, file_at};
 ghost use Rattle.bx_engine.specs.Outcomes.{HasAnswer, Outcome, ReadsModule, EndsSaying};
 ghost use Rattle.bx_engine.specs.Said.{ending_text, refusal_text, word_fault_text, input_fault_text};
-ghost use Rattle.bx_engine.specs.Statuses.{IsSettled, IsSearched, status_of};
+ghost use Rattle.bx_engine.specs.Statuses.{IsSettled, HasSearched, status_of};
 ghost use Rattle.bx_engine.specs.Steps.{file_of, design_answer, HasPlaces, EndsGiving, EndsDesign, EndsCommand};
 ghost use Rattle.bx_engine.specs.Tasks.{Task, IsTask, IsToldText, IsThere};
 ghost use Rattle.bx_engine.specs.Texts.{IsRefused, IsTaken, network_of};
@@ -81,7 +81,7 @@ pub fn run<T: Threads + Sync, D: Desk, G: Gate + Sync>(
 
     // The ratios of the others are searched: the status is that of the design of the module's network, whether one
     // is found, left undecided or none, and of nothing else.
-    ensures searched_only { IsSearched result → (task : Task) (text : Text) → IsToldText (texts words.now) (D.state desk.old).files task text
+    ensures searched_only { HasSearched result → (task : Task) (text : Text) → IsToldText (texts words.now) (D.state desk.old).files task text
         → (m : ModuleTree) × IsTaken text m × ((cert : Certificate) × (end : Ending)
         × IsDesign (network_of m) all_forms task.limits task.budget cert end × (result ≡ status_of end)) }
     ensures taken { IsSettled result → (task : Task) (text : Text) → IsToldText (texts words.now) (D.state desk.old).files task text

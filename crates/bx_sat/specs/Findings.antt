@@ -18,7 +18,7 @@ IsEnd formula budget (Unsatisfiable log) = (n : ℕ) × IsSearch formula budget 
 IsEnd formula budget Unknown = (spent : ℕ) × (n : ℕ) × IsSearch formula budget (Undecided spent) n
 
 -- bits, one for each variable, that make all clauses true, or a log that is accepted
-abbrev pub IsFound : Formula → Answer → Type 0
-IsFound formula (Satisfiable bits) = (length bits ≡ formula.vars) × AllTrue bits formula.clauses
-IsFound formula (Unsatisfiable log) = IsAccepted formula log
-IsFound formula Unknown = ⊤
+abbrev pub IsRight : Formula → Answer → Type 0
+IsRight formula (Satisfiable bits) = (length bits ≡ formula.vars) × AllTrue bits formula.clauses
+IsRight formula (Unsatisfiable log) = IsAccepted formula log
+IsRight formula Unknown = ⊤

@@ -12,9 +12,9 @@ use Rattle.bx_sat.specs.declared.solving.Answer.{Answer}
 use Rattle.bx_sat.specs.declared.solving.Answer.TheVariants.{Unsatisfiable}
 use Rattle.bx_sat.specs.Answers.{verdict_status, verdict_text, answer_status, answer_text}
 use Rattle.bx_sat.specs.Files.{FailsToRead, FailsToWrite}
-use Rattle.bx_sat.specs.Findings.{used, IsEnd, IsFound}
+use Rattle.bx_sat.specs.Findings.{used, IsEnd, IsRight}
 use Rattle.bx_sat.specs.Sayings.{EndsSaying, bad_line_text}
-use Rattle.bx_sat.specs.Verdicts.{IsVerdict}
+use Rattle.bx_sat.specs.Verdicts.{IsProofVerdict}
 use Rattle.bx_sat.specs.Words.{Request, check, solve}
 
 abbrev pub usage_text : Text
@@ -39,7 +39,7 @@ FailsToKeep old new answer name = ⊥
 
 -- it says what a proof is for a formula, each as it was read from the files of these names
 pub data EndsCheck (formula_name proof_name : Text) (old new : DeskState) (result : SatStatus) : Type 0 where
-  checked : (formula : Formula) (proof : LratProof) (verdict : Verdict) → IsVerdict formula proof verdict
+  checked : (formula : Formula) (proof : LratProof) (verdict : Verdict) → IsProofVerdict formula proof verdict
       → EndsSaying old new (verdict_status verdict) (verdict_text verdict) result → EndsCheck formula_name proof_name old new result
   no_formula : Unanswered formula_name old new result → EndsCheck formula_name proof_name old new result
   no_proof : Unanswered proof_name old new result → EndsCheck formula_name proof_name old new result
@@ -49,9 +49,9 @@ pub data EndsCheck (formula_name proof_name : Text) (old new : DeskState) (resul
 -- can't be kept, it says nothing
 pub data EndsSolve (name : Text) (budget : ℕ) (proof : Option Text) (old new : DeskState) (result : SatStatus) : Type 0 where
   solved : (mid : DeskState) (formula : Formula) (vars : ℕ) (answer : Answer) → vars ≤ formula.vars
-      → IsEnd formula (used formula budget) answer → IsFound formula answer → KeepsProof old mid answer proof
+      → IsEnd formula (used formula budget) answer → IsRight formula answer → KeepsProof old mid answer proof
       → EndsSaying mid new (answer_status answer) (answer_text vars answer) result → EndsSolve name budget proof old new result
-  unkept : (formula : Formula) (answer : Answer) → IsEnd formula (used formula budget) answer → IsFound formula answer
+  unkept : (formula : Formula) (answer : Answer) → IsEnd formula (used formula budget) answer → IsRight formula answer
       → FailsToKeep old new answer proof → result ≡ Failed → EndsSolve name budget proof old new result
   no_formula : Unanswered name old new result → EndsSolve name budget proof old new result
 

@@ -15,7 +15,7 @@ IsFailure formula proof id =
     ⊎ (AllPass formula proof.steps.steps × (proof.ill ≡ Some id))
 
 -- the steps are accepted, or one fails first, or all pass and there is no other
-abbrev pub IsVerdict : Formula → LratProof → Verdict → Type 0
-IsVerdict formula proof Verified = IsAccepted formula proof.steps
-IsVerdict formula proof (Fails id) = IsFailure formula proof id
-IsVerdict formula proof Open = AllPass formula proof.steps.steps × (proof.ill ≡ None)
+abbrev pub IsProofVerdict : Formula → LratProof → Verdict → Type 0
+IsProofVerdict formula proof Verified = IsAccepted formula proof.steps
+IsProofVerdict formula proof (Fails id) = IsFailure formula proof id
+IsProofVerdict formula proof Open = AllPass formula proof.steps.steps × (proof.ill ≡ None)

@@ -2,7 +2,7 @@
 ghost use Rattle.std.specs.Prelude.{◌≡◌, ◌≢◌, ◌+◌, List, Bool, length, IfOk};
 ghost use Rattle.bx_cnf.specs.Formulas.{AllTrue};
 ghost use Rattle.bx_proof.specs.Accepted.{IsAccepted};
-ghost use Rattle.bx_sat.specs.Verdicts.{IsVerdict};
+ghost use Rattle.bx_sat.specs.Verdicts.{IsProofVerdict};
 
 use bx_check::{check, first_failure};
 use bx_cnf::Clauses;
@@ -30,7 +30,7 @@ pub enum Verdict {
 pub fn verify(alloc: Global, clauses: &Clauses, proof: &LratProof) -> Result<Verdict, NoMemory>
     requires numbered { proof.now.steps.first ≡ length clauses.now.clauses + 1 }
     requires named { length proof.now.ids.items ≡ length proof.now.steps.steps }
-    ensures verdict { IfOk result (IsVerdict clauses.now proof.now) }
+    ensures verdict { IfOk result (IsProofVerdict clauses.now proof.now) }
     ensures verified { IfOk result (λ verdict. IsAccepted clauses.now proof.now.steps → verdict ≡ Verdict.Verified) }
     ensures sound { IfOk result (λ verdict. verdict ≡ Verdict.Verified → (bits : List Bool) → AllTrue bits clauses.now.clauses → ⊥) }
 {
@@ -44,7 +44,7 @@ pub fn verify(alloc: Global, clauses: &Clauses, proof: &LratProof) -> Result<Ver
 fn failure_of(alloc: Global, clauses: &Clauses, proof: &LratProof) -> Result<Verdict, NoMemory>
     requires numbered { proof.now.steps.first ≡ length clauses.now.clauses + 1 }
     requires named { length proof.now.ids.items ≡ length proof.now.steps.steps }
-    ensures verdict { IfOk result (IsVerdict clauses.now proof.now) }
+    ensures verdict { IfOk result (IsProofVerdict clauses.now proof.now) }
     ensures not_verified { IfOk result (λ verdict. verdict ≢ Verdict.Verified) }
 {
     if let Some(k) = first_failure(alloc, clauses, &proof.steps)? {

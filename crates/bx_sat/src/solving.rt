@@ -2,7 +2,7 @@
 ghost use Rattle.std.specs.Prelude.{◌≡◌, List, Bool, IfOk};
 ghost use Rattle.bx_cnf.specs.Formulas.{AllTrue};
 ghost use Rattle.bx_proof.specs.Steps.{StepList};
-ghost use Rattle.bx_sat.specs.Findings.{used, IsEnd, IsFound};
+ghost use Rattle.bx_sat.specs.Findings.{used, IsEnd, IsRight};
 
 use bx_cnf::{Bits, Clauses};
 use bx_logic::NoMemory;
@@ -34,7 +34,7 @@ pub fn decide(alloc: Global, clauses: &Clauses, budget: u64) -> Result<Answer, N
     // It is the end of the search, within what is used of the budget.
     ensures ended { IfOk result (IsEnd clauses.now (used clauses.now budget)) }
     // Bits that it gives make all clauses true, and a log that it gives is accepted.
-    ensures found { IfOk result (IsFound clauses.now) }
+    ensures found { IfOk result (IsRight clauses.now) }
     ensures refuted { IfOk result (λ answer. (log : StepList) → answer ≡ Answer.Unsatisfiable log
         → (bits : List Bool) → AllTrue bits clauses.now.clauses → ⊥) }
 {

@@ -1,21 +1,19 @@
 -- Orders of variables: what moving one to the front keeps, and what the first free one is.
-use Rattle.std.proofs.Common.{◌≡◌, ◌≢◌, ℕ, suc, zero, take, drop, set, add-one, drop-cons, ◌+◌, ◌-◌, ◌<◌, ◌≤◌, Bool, true, false, not, ◌==◌, List, [], ◌∷◌, ◌++◌, length, Option, Some, None, Contains, filter, find, get_or, refl, sym, ap, subst, ◌∙◌, arith, ◌⊎◌, inl, inr, IfSome}
+use Rattle.std.proofs.Common.{◌≡◌, ◌≢◌, ℕ, suc, zero, ◌+◌, ◌-◌, ◌<◌, ◌≤◌, Bool, true, false, not, ◌==◌, List, [], ◌∷◌, ◌++◌, length, Option, Some, None, Contains, filter, find, refl, sym, ap, subst, ◌∙◌, arith, ◌⊎◌, inl, inr, IfSome}
 use Rattle.std.specs.List.{AllByRecursion, range_with_len, All}
 use Rattle.std.proofs.lemmas.Bool.{cases_Bool, cond-true, cond-false, cases_eq, eq-eqb, ne_eqb, not-true, not-false}
-use Rattle.std.proofs.lemmas.Grind.{common_steps}
 use Rattle.std.proofs.lemmas.List.Elements.{Contains-append_right, Contains-push_cases, Contains-append_cases, All-contains_itself, All-weaker}
-use Rattle.std.proofs.lemmas.List.{take-append-drop, take-set, drop-set}
 use Rattle.std.proofs.lemmas.List.FromFn.{length-range_with_len, get_or-range_with_len}
 use Rattle.bx_logic.specs.Lists.{AreDistinct}
-use Rattle.bx_queue.specs.Queue.{Queue, IsQueue, IsVariable, is_taken, first_free, without, moved_to_front, shifted}
+use Rattle.bx_queue.specs.Queue.{Queue, IsQueue, IsVariable, is_taken, first_free, without, moved_to_front}
 
-Contains-here : {X : Type 0} (x : X) (xs : List X) → Contains (x ∷ xs) x
+pub Contains-here : {X : Type 0} (x : X) (xs : List X) → Contains (x ∷ xs) x
 Contains-here x xs = (0, omega arith, refl)
 
-Contains-there : {X : Type 0} (y : X) (xs : List X) (x : X) → Contains xs x → Contains (y ∷ xs) x
+pub Contains-there : {X : Type 0} (y : X) (xs : List X) (x : X) → Contains xs x → Contains (y ∷ xs) x
 Contains-there y xs x h = Contains-append_right (y ∷ []) xs x h
 
-Contains-cases : {X : Type 0} (y : X) (xs : List X) (x : X) → Contains (y ∷ xs) x → (y ≡ x) ⊎ Contains xs x
+pub Contains-cases : {X : Type 0} (y : X) (xs : List X) (x : X) → Contains (y ∷ xs) x → (y ≡ x) ⊎ Contains xs x
 Contains-cases y xs x h = elim (Contains-append_cases (y ∷ []) xs x h) [
   | inl front ↦ elim (Contains-push_cases [] y x front) [
     | inl none ↦ absurd (omega (arith, none.1))
@@ -25,13 +23,13 @@ Contains-cases y xs x h = elim (Contains-append_cases (y ∷ []) xs x h) [
 ]
 
 -- two numbers are the same, or the test says that they aren't
-same_or_not : (x v : ℕ) → ((x ≡ v) × ((x == v) ≡ true)) ⊎ ((x ≢ v) × ((x == v) ≡ false))
+pub same_or_not : (x v : ℕ) → ((x ≡ v) × ((x == v) ≡ true)) ⊎ ((x ≢ v) × ((x == v) ≡ false))
 same_or_not x v = elim (cases_eq x v) [ inl e ↦ inl (e, eq-eqb x v e) | inr n ↦ inr (n, ne_eqb x v n) ]
 
-without-same : (v x : ℕ) (xs : List ℕ) → (x == v) ≡ true → without v (x ∷ xs) ≡ xs
+pub without-same : (v x : ℕ) (xs : List ℕ) → (x == v) ≡ true → without v (x ∷ xs) ≡ xs
 without-same v x xs e = cond-true (x == v) xs (x ∷ without v xs) e
 
-without-other : (v x : ℕ) (xs : List ℕ) → (x == v) ≡ false → without v (x ∷ xs) ≡ x ∷ without v xs
+pub without-other : (v x : ℕ) (xs : List ℕ) → (x == v) ≡ false → without v (x ∷ xs) ≡ x ∷ without v xs
 without-other v x xs e = cond-false (x == v) xs (x ∷ without v xs) e
 
 -- marks alone don't tell whether it is a queue
@@ -43,17 +41,6 @@ IsQueue-marks order taken marks e q =
       all = λ v h. q.all v (subst (λ n. IsVariable n v) e h);
       once = q.once;
     }
-
--- what is held moves up behind the items before the one that is sought
-pub shifted-held : (v held : ℕ) (xs : List ℕ) → Contains xs v → shifted v held xs ≡ held ∷ without v xs
-shifted-held v held [] h = absurd (omega (arith, h.1))
-shifted-held v held (x ∷ xs) h = elim (same_or_not x v) [
-  | inl same ↦ ap (λ zs. held ∷ zs) (cond-true (x == v) xs (shifted v x xs) same.1 ∙ sym (without-same v x xs same.1))
-  | inr other ↦ elim (Contains-cases x xs v h) [
-    | inl here ↦ absurd (other.0 here)
-    | inr rest ↦ ap (λ zs. held ∷ zs) (cond-false (x == v) xs (shifted v x xs) other.1 ∙ (shifted-held v x xs rest ∙ sym (without-other v x xs other.1)))
-  ]
-]
 
 abbrev isnt : ℕ → ℕ → Bool
 isnt v x = not (x == v)
@@ -102,14 +89,14 @@ without-keeps v y (x ∷ xs) n h = elim (same_or_not x v) [
 ]
 
 -- what holds of each holds of each that is left
-AllByRecursion-without : (P : ℕ → Type 0) (v : ℕ) (xs : List ℕ) → AllByRecursion P xs → AllByRecursion P (without v xs)
+pub AllByRecursion-without : (P : ℕ → Type 0) (v : ℕ) (xs : List ℕ) → AllByRecursion P xs → AllByRecursion P (without v xs)
 AllByRecursion-without P v [] h = h
 AllByRecursion-without P v (x ∷ xs) h = elim (same_or_not x v) [
   | inl same ↦ subst (AllByRecursion P) (sym (without-same v x xs same.1)) h.1
   | inr other ↦ subst (AllByRecursion P) (sym (without-other v x xs other.1)) (h.0, AllByRecursion-without P v xs h.1)
 ]
 
-AreDistinct-without : (v : ℕ) (xs : List ℕ) → AreDistinct xs → AreDistinct (without v xs)
+pub AreDistinct-without : (v : ℕ) (xs : List ℕ) → AreDistinct xs → AreDistinct (without v xs)
 AreDistinct-without v [] h = h
 AreDistinct-without v (x ∷ xs) h = elim (same_or_not x v) [
   | inl same ↦ subst (AreDistinct {X = ℕ}) (sym (without-same v x xs same.1)) h.1
@@ -117,7 +104,7 @@ AreDistinct-without v (x ∷ xs) h = elim (same_or_not x v) [
 ]
 
 -- where it stands once, it is gone
-without-gone : (v : ℕ) (xs : List ℕ) → AreDistinct xs → AllByRecursion (λ y. y ≢ v) (without v xs)
+pub without-gone : (v : ℕ) (xs : List ℕ) → AreDistinct xs → AllByRecursion (λ y. y ≢ v) (without v xs)
 without-gone v [] h = tt
 without-gone v (x ∷ xs) h = elim (same_or_not x v) [
   | inl same ↦ subst (AllByRecursion (λ y. y ≢ v)) (sym (without-same v x xs same.1)) (subst (λ z. AllByRecursion (λ y. y ≢ z) xs) same.0 h.0)
@@ -189,11 +176,11 @@ from-one a n v (k, below, is) =
     let at : a + k ≡ v = sym (get_or-range_with_len a n k v small) ∙ is in
     (omega (arith, at), omega (arith, at, small))
 
-AllBelow-range : (a n low : ℕ) → low < a → AllByRecursion (λ y. y ≢ low) (range_with_len a n)
+pub AllBelow-range : (a n low : ℕ) → low < a → AllByRecursion (λ y. y ≢ low) (range_with_len a n)
 AllBelow-range a zero low h = tt
 AllBelow-range a (suc n) low h = ((λ (e : a ≡ low). omega (arith, h, e)), AllBelow-range (a + 1) n low (omega (arith, h)))
 
-AreDistinct-range : (a n : ℕ) → AreDistinct (range_with_len a n)
+pub AreDistinct-range : (a n : ℕ) → AreDistinct (range_with_len a n)
 AreDistinct-range a zero = tt
 AreDistinct-range a (suc n) = (AllBelow-range (a + 1) n a (omega arith), AreDistinct-range (a + 1) n)
 
@@ -218,18 +205,3 @@ range-more a (suc n) =
     let last : a + 1 + n ≡ a + suc n = omega arith in
     ap (range_with_len a) more
     ∙ ap (λ zs. a ∷ zs) (ap (range_with_len (a + 1)) one ∙ (range-more (a + 1) n ∙ ap (λ k. range_with_len (a + 1) n ++ k ∷ []) last))
-
--- where the item is met that is sought, what is held takes its place
-pub shifted-stop : (v held at : ℕ) (order first : List ℕ) → at < length order → drop at order ≡ drop at first → get_or order at 0 ≡ v
-    → set order at held ≡ take at order ++ shifted v held (drop at first)
-shifted-stop v held at order first below same met =
-    let meets : drop at first ≡ get_or order at 0 ∷ drop (at + 1) order = sym same ∙ rw add-one (drop-cons order at 0 below) in
-    let stops : shifted v held (get_or order at 0 ∷ drop (at + 1) order) ≡ held ∷ drop (at + 1) order
-    = ap (λ zs. held ∷ zs) (cond-true (get_or order at 0 == v) (drop (at + 1) order) (shifted v (get_or order at 0) (drop (at + 1) order)) (eq-eqb (get_or order at 0) v met)) in
-    let parts : set order at held ≡ take at order ++ held ∷ drop (at + 1) order
-    = sym (take-append-drop at (set order at held)) ∙ (ap (λ zs. zs ++ drop at (set order at held)) (take-set order at held) ∙ ap (λ zs. take at order ++ zs) (drop-set order at held below)) in
-    parts ∙ ap (λ zs. take at order ++ zs) (sym stops ∙ ap (shifted v held) (sym meets))
-
--- a list of this length is what is taken of it
-pub take-whole : (n : ℕ) (xs ys : List ℕ) → length xs ≡ n → take n (xs ++ ys) ≡ xs
-take-whole n xs ys e = grind (arith, common_steps)

@@ -32,8 +32,3 @@ without v (x ∷ xs) = if x == v then xs else x ∷ without v xs
 
 abbrev pub moved_to_front : ℕ → List ℕ → List ℕ
 moved_to_front v order = v ∷ without v order
-
--- the list moved up by one from its start to where the item stands first, behind what is held before it
-abbrev pub shifted : ℕ → ℕ → List ℕ → List ℕ
-shifted v held [] = []
-shifted v held (x ∷ xs) = held ∷ (if x == v then xs else shifted v x xs)

@@ -1,6 +1,5 @@
-use Rattle.std.proofs.Common.{length-set}
-use Rattle.bx_queue.proofs.Orders.{IsQueue-marks}
+use Rattle.bx_queue.proofs.Places.{searched-taken, variable-inside}
 use Rattle.bx_queue.proofs.queue.MoveFront.assigned.Goals as goal
 
 pub invariant_of-self : goal.invariant_of-self
-invariant_of-self c = IsQueue-marks _ _ _ (length-set _ _ _) c.self.invariant
+invariant_of-self c = searched-taken _ _ _ _ c.args.var c.self.invariant (variable-inside _ _ _ c.args.var c.self.view_is c.requires.within)

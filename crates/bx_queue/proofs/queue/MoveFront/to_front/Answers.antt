@@ -1,26 +1,30 @@
-use Rattle.std.proofs.Common.{◌≡◌, ◌++◌, ◌∙◌, ℕ, List, length, take, drop, ap, sym, subst, rules}
-use Rattle.bx_queue.specs.Queue.{Queue, IsQueue, IsVariable, moved_to_front, shifted}
-use Rattle.bx_queue.proofs.Orders.{IsQueue-moved, shifted-held, take-whole}
+use Rattle.std.proofs.Common.{◌∙◌, ◌-◌, ◌^◌, Bool, List, ℕ, ap, arith, rules}
+use Rattle.bx_queue.specs.Stamps.{place_after, stamped}
+use Rattle.std.proofs.lemmas.List.{take_at}
+use Rattle.bx_queue.proofs.Places.{variable-inside, room-moved, length-moved, searched-written}
 use Rattle.bx_queue.proofs.queue.MoveFront.to_front.Goals as goal
 
-variable : (c : goal.After-self-1) → IsVariable (length c.self.inside.taken.items) c.args.var
-variable c = subst (λ (q : Queue). IsVariable (length q.taken) c.args.var) (sym c.self.view_is) c.requires
+pub stamp_first-requires-clause-each : goal.stamp_first-requires-clause-each
+stamp_first-requires-clause-each c =
+    let h = variable-inside _ _ _ c.args.var c.self.view_is c.requires in
+    let len = length-moved _ _ _ _ c.args.var c.self.invariant h in
+    rw (c.deref_mut.ensures.value, c.move_to_front.ensures) (omega (arith, len, c.self.invariant.each))
 
-moved : (c : goal.After-self-1) → c.move_to_front.new.order ≡ moved_to_front c.args.var c.self.inside.order.items
-moved c =
-    c.move_to_front.ensures
-    ∙ (ap (shifted c.args.var c.args.var) c.deref_mut.ensures.value
-    ∙ shifted-held c.args.var c.args.var c.self.inside.order.items (c.self.invariant.all c.args.var (variable c)))
+pub stamp_first-requires-clause-room : goal.stamp_first-requires-clause-room
+stamp_first-requires-clause-room c =
+    let h = variable-inside _ _ _ c.args.var c.self.view_is c.requires in
+    rw (c.deref_mut.ensures.value, c.move_to_front.ensures) (room-moved _ _ _ _ c.args.var c.self.invariant h)
 
-whole : (c : goal.After-self-1) → take c.self.inside.order.len (c.move_to_front.new.order ++ drop (length c.move_to_front.new.order) c.self.inside.order.items) ≡ c.move_to_front.new.order
-whole c = take-whole c.self.inside.order.len c.move_to_front.new.order _ (search (rules, c.move_to_front.auto.order))
+pub stamp_first-requires-clause-few : goal.stamp_first-requires-clause-few
+stamp_first-requires-clause-few c =
+    let h = variable-inside _ _ _ c.args.var c.self.view_is c.requires in
+    let len = length-moved _ _ _ _ c.args.var c.self.invariant h in
+    rw c.move_to_front.ensures (omega (arith, len, c.self.invariant.few))
 
 pub invariant_of-self : goal.invariant_of-self
 invariant_of-self c =
-    subst (λ (order : List ℕ). IsQueue (record { order = order; taken = c.self.inside.taken.items })) (sym (whole c ∙ moved c))
-    (IsQueue-moved c.args.var c.self.inside.order.items c.self.inside.taken.items (variable c) c.self.invariant)
-
-pub returns : goal.returns
-returns c =
-    ap (λ (order : List ℕ). record { order = order; taken = c.self.inside.taken.items }) (whole c ∙ moved c)
-    ∙ ap (λ (q : Queue). record { order = moved_to_front c.args.var q.order; taken = q.taken }) c.self.view_is
+    searched-written _ _ _ _ _ c.args.var c.first.result c.index-above.result.now _ _ _ c.self.invariant (variable-inside _ _ _ c.args.var c.self.view_is c.requires)
+    c.move_to_front.ensures c.first.ensures c.index-above.ensures
+    (take_at c.stamp_first.new.stamps _ c.self.inside.stamps.len (search (rules, c.stamp_first.auto.stamps))
+    ∙ (c.stamp_first.ensures ∙ ap (λ (s : List ℕ). stamped (2 ^ 32 - 1) c.move_to_front.new.self s c.args.var c.index-above.result.now) c.deref_mut.ensures.value))
+    (c.place_after-self-inside.ensures ∙ ap (λ (t : List Bool). place_after c.self.inside.ring t c.self.inside.place c.args.var) c.deref.ensures.value)

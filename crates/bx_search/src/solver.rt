@@ -2,7 +2,9 @@
 //! was learned and what it cost. Each part stands in a type of its own, which promises what its calls
 //! make of it; here they are kept in agreement. What happens next is said beside: `propagate`, `decide`,
 //! `learn` and `backtrack` each make the state of the search that the definition says.
-ghost use Rattle.std.specs.Prelude.{◌≡◌, IfOk, OnOk, ◌<◌, ◌^◌};
+ghost use Rattle.std.specs.Prelude.{◌≡◌, IfOk, OnOk, ◌<◌, ◌^◌, [], false, replicate};
+ghost use Rattle.std.specs.List.{range_with_len};
+ghost use Rattle.bx_queue.specs.Queue.{IsQueue};
 ghost use Rattle.bx_watch.specs.Watching.{IsWatch, IsLeastActive};
 ghost use Rattle.bx_search.specs.States.{start};
 ghost use Rattle.bx_search.specs.Searching.{IsQuiet};
@@ -21,7 +23,7 @@ use std::alloc::Global;
 #[derive(Drop)]
 pub(crate) struct Solver<'a> {
     pub(crate) clauses: &'a Clauses,
-    pub(crate) watched: Watched,
+    pub(crate) watched: Watched<'a>,
     pub(crate) queue: MoveFront,
     pub(crate) trail: Trail,
     // of each variable, variable 1 first, the value that a decision gives it
@@ -53,14 +55,37 @@ impl<'a> Solver<'a> {
         ensures formula { IfOk result (λ s. s.clauses.now ≡ clauses.now) }
         ensures state { IfOk result (λ s. state_of s ≡ start clauses.now.vars) }
     {
+        let watched = Watched::new(alloc, clauses)?;
+        let queue = MoveFront::new(alloc, clauses.vars())?;
+        let trail = Trail::new(alloc, clauses.vars())?;
+        Solver::with(alloc, clauses, watched, queue, trail)
+    }
+
+    // The start of the search, with what is assigned and the order of the decisions as they are at first.
+    fn with(
+        alloc: Global,
+        clauses: &'a Clauses,
+        watched: Watched<'a>,
+        queue: MoveFront,
+        trail: Trail,
+    ) -> Result<Self, NoMemory>
+        requires watched { watched ≡ record { vars = clauses.now.vars; clauses = clauses.now.clauses; trail = [] } }
+        requires ordered { IsQueue queue }
+        requires order { queue.order ≡ range_with_len 1 clauses.now.vars }
+        requires free { queue.taken ≡ replicate clauses.now.vars false }
+        requires trail { trail ≡ record { vars = clauses.now.vars; entries = [] } }
+        ensures agrees { IfOk result IsSolver }
+        ensures formula { IfOk result (λ s. s.clauses.now ≡ clauses.now) }
+        ensures state { IfOk result (λ s. state_of s ≡ start clauses.now.vars) }
+    {
         let vars = clauses.vars();
         // With as many clauses as there are numbers nothing is left of the budget, and no step is added.
         let first = clauses.len().saturating_add(1);
         Ok(Solver {
             clauses,
-            watched: Watched::new(alloc, clauses)?,
-            queue: MoveFront::new(alloc, vars)?,
-            trail: Trail::new(alloc, vars)?,
+            watched,
+            queue,
+            trail,
             phases: vec![in alloc; false; vars as usize]?,
             steps: Steps::new(alloc, first),
             spent: 0,

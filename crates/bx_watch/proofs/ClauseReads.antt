@@ -9,8 +9,8 @@ use Rattle.bx_cnf.specs.Formulas.{AscendAbove, IsClause}
 use Rattle.bx_cnf.proofs.Propagation.{clause_pairs}
 use Rattle.bx_cnf.specs.Literals.{Literal}
 use Rattle.bx_cnf.specs.Assignments.{IsFalse, IsFree, IsClauseFalse, LeavesOne, IsUnit, IsActive}
-use Rattle.bx_watch.specs.declared.watched.Reading.{Reading}
-use Rattle.bx_watch.specs.declared.watched.Reading.TheVariants.{False, Unit, Other}
+use Rattle.bx_watch.specs.declared.reading.Reading.{Reading}
+use Rattle.bx_watch.specs.declared.reading.Reading.TheVariants.{False, Unit, Other}
 use Rattle.bx_watch.specs.Watching.{IsOver, AreApart}
 use Rattle.bx_watch.specs.Readings.{IsBlocked, IsRead}
 use Rattle.bx_watch.proofs.Trails.{never_both}
@@ -30,16 +30,16 @@ contains-at c k m e = (k, within c k m e, get_or_from_slice_get c k m m e) where
   within (x ∷ xs) (suc n) l h = omega (arith, within xs n l h)
 
 -- what stands at a place of a list that one item was put behind
-get-front : (c : List Literal) (k : ℕ) (m x : Literal) → slice_get c k ≡ Some m → slice_get (c ++ x ∷ []) k ≡ Some m
+pub get-front : (c : List Literal) (k : ℕ) (m x : Literal) → slice_get c k ≡ Some m → slice_get (c ++ x ∷ []) k ≡ Some m
 get-front [] k m x e = absurd (none_some m e)
 get-front (d ∷ ds) zero m x e = e
 get-front (d ∷ ds) (suc k) m x e = get-front ds k m x e
 
-get-last : (c : List Literal) (x : Literal) → slice_get (c ++ x ∷ []) (length c) ≡ Some x
+pub get-last : (c : List Literal) (x : Literal) → slice_get (c ++ x ∷ []) (length c) ≡ Some x
 get-last [] x = refl
 get-last (d ∷ ds) x = get-last ds x
 
-get-push : (c : List Literal) (x : Literal) (k : ℕ) (m : Literal) → slice_get (c ++ x ∷ []) k ≡ Some m → (slice_get c k ≡ Some m) ⊎ ((k ≡ length c) × (x ≡ m))
+pub get-push : (c : List Literal) (x : Literal) (k : ℕ) (m : Literal) → slice_get (c ++ x ∷ []) k ≡ Some m → (slice_get c k ≡ Some m) ⊎ ((k ≡ length c) × (x ≡ m))
 get-push [] x zero m e = inr (refl, some-same x m e)
 get-push [] x (suc k) m e = absurd (none_some m e)
 get-push (d ∷ ds) x zero m e = inl e

@@ -1,3 +1,13 @@
 pub mod Trails
 pub mod ClauseReads
 pub mod Firsts
+pub mod Lits
+pub mod Wakes
+pub mod Keeps
+pub mod Moves
+pub mod Entries
+pub mod Ranks
+pub mod Cleaning
+pub mod Releasing
+pub mod Events
+pub mod Attaching

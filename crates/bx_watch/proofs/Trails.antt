@@ -11,12 +11,12 @@ use Rattle.bx_cnf.specs.Assignments.{IsFalse, IsFree}
 use Rattle.bx_watch.specs.Watching.{IsOver, AreApart}
 use Rattle.bx_watch.specs.Readings.{value_at, AreValues, IsValue}
 
-no_negation : (b : Bool) → b ≡ not b → ⊥
+pub no_negation : (b : Bool) → b ≡ not b → ⊥
 no_negation true e = cc
 no_negation false e = cc
 
 -- two literals of a trail over one variable are one
-one_of_variable : (trail : List Literal) (l m : Literal) → AreApart trail → Contains trail l → Contains trail m → l.var ≡ m.var → l ≡ m
+pub one_of_variable : (trail : List Literal) (l m : Literal) → AreApart trail → Contains trail l → Contains trail m → l.var ≡ m.var → l ≡ m
 one_of_variable trail l m apart (i, below_i, is_l) (j, below_j, is_m) same = elim (cases_order i j) [
   | inl here ↦ sym is_l ∙ (get_or_default trail i l m below_i ∙ (ap (λ k. get_or trail k m) here ∙ is_m))
   | inr (inl before) ↦ absurd (apart i j l before below_j (ap (λ (x : Literal). x.var) is_l ∙ (same ∙ sym (ap (λ (x : Literal). x.var) (get_or_default trail j l m below_j ∙ is_m)))))
@@ -27,10 +27,10 @@ one_of_variable trail l m apart (i, below_i, is_l) (j, below_j, is_m) same = eli
 pub never_both : (trail : List Literal) (l : Literal) → AreApart trail → Contains trail l → IsFalse trail l → ⊥
 never_both trail l apart holds fails = no_negation l.positive (ap (λ (x : Literal). x.positive) (one_of_variable trail l (negated l) apart holds fails refl))
 
-literal-same : (l m : Literal) → l.var ≡ m.var → l.positive ≡ m.positive → l ≡ m
+pub literal-same : (l m : Literal) → l.var ≡ m.var → l.positive ≡ m.positive → l ≡ m
 literal-same l m v p = ap (λ (n : ℕ). record { var = n; positive = l.positive }) v ∙ ap (λ (b : Bool). record { var = m.var; positive = b }) p
 
-either : (a b : Bool) → (a ≡ b) ⊎ (a ≡ not b)
+pub either : (a b : Bool) → (a ≡ b) ⊎ (a ≡ not b)
 either true true = inl refl
 either true false = inr refl
 either false true = inr refl
@@ -47,7 +47,7 @@ pub AreApart-assigned : (trail : List Literal) (l : Literal) → AreApart trail 
 AreApart-assigned trail l apart free =
     all_pairs_push (λ (a b : Literal). a.var ≢ b.var) trail l apart (λ k d below. fresh trail l (get_or trail k d) free (k, below, get_or_default trail k _ d below))
 
-same_place : (u v : ℕ) → 0 < u → 0 < v → u ≢ v → v - 1 ≢ u - 1
+pub same_place : (u v : ℕ) → 0 < u → 0 < v → u ≢ v → v - 1 ≢ u - 1
 same_place u v hu hv n e = n (omega (arith, hu, hv, e))
 
 pub AreValues-assigned : (vars : ℕ) (values : List (Option Bool)) (trail : List Literal) (l : Literal)
@@ -82,7 +82,7 @@ front-apart trail l apart i j d before below =
     let at_j : get_or (trail ++ l ∷ []) j d ≡ get_or trail j d = get_or_append_left trail (l ∷ []) d j below in
     λ e. apart i j d before longer (ap (λ (x : Literal). x.var) at_i ∙ (e ∙ sym (ap (λ (x : Literal). x.var) at_j)))
 
-last-apart : (trail : List Literal) (l m : Literal) → AreApart (trail ++ l ∷ []) → Contains trail m → m.var ≢ l.var
+pub last-apart : (trail : List Literal) (l m : Literal) → AreApart (trail ++ l ∷ []) → Contains trail m → m.var ≢ l.var
 last-apart trail l m apart (k, below, is) =
     let longer : length trail < length (trail ++ l ∷ []) = omega (arith, length-append trail (l ∷ [])) in
     let at_k : get_or (trail ++ l ∷ []) k m ≡ m = get_or_append_left trail (l ∷ []) m k below ∙ is in
@@ -141,3 +141,23 @@ value-some vars values trail l value are over h = by_sign value l.positive refl 
 -- the front of a list
 pub take-front : {X : Type 0} (xs : List X) (x : X) → take (length (xs ++ x ∷ []) - 1) (xs ++ x ∷ []) ≡ xs
 take-front xs x = ap (λ n. take n (xs ++ x ∷ [])) (omega (arith, length-append xs (x ∷ []))) ∙ take-append-le (length xs) xs (x ∷ []) (omega arith) ∙ take_all (length xs) xs (omega arith)
+
+pub value-none : (vars : ℕ) (values : List (Option Bool)) (trail : List Literal) (l : Literal) → AreValues vars values trail → value_at values l.var ≡ None → IsFree trail l
+value-none vars values trail l are h = (λ has. none_some l.positive (sym h ∙ are.back l has), λ has. none_some (not l.positive) (sym h ∙ are.back (negated l) has)) where
+  none_some : (b : Bool) → None ≡ Some b → ⊥
+  none_some b e = cc
+
+-- what a value that is known says
+pub known-true : (trail : List Literal) (l : Literal) (value : Bool) → IsValue trail l (Some value) → value ≡ true → Contains trail l
+known-true trail l value is e = subst (λ (b : Bool). IsValue trail l (Some b)) e is
+
+pub known-false : (trail : List Literal) (l : Literal) (value : Bool) → IsValue trail l (Some value) → value ≡ false → IsFalse trail l
+known-false trail l value is e = subst (λ (b : Bool). IsValue trail l (Some b)) e is
+
+pub not-true : (b : Bool) → not b ≡ true → b ≡ false
+not-true true e = sym e
+not-true false e = refl
+
+pub not-false : (b : Bool) → not b ≡ false → b ≡ true
+not-false true e = refl
+not-false false e = sym e

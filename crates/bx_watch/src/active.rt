@@ -3,7 +3,7 @@
 use bx_cnf::Lit;
 
 /// An active clause, by its number.
-#[derive(Clone, Copy, Debug, PartialEq, Eq)]
+#[derive(Clone, Copy)]
 pub enum Active {
     /// All its literals but this one are false, and the variable of this one is free.
     Unit(u32, Lit),

@@ -1,12 +1,16 @@
-//! The clauses, the trail, and the value of each variable. It promises the least-numbered active clause
-//! for any trail; which literal is assigned, and when a variable is freed, is for the solver to say.
-ghost use Rattle.std.specs.Prelude.{◌≡◌, ◌++◌, ◌∷◌, [], ◌<◌, ◌≤◌, ◌+◌, List, Bool, Option, Some, None, All, IfSome, IfOk, OnOk, length, take, AllPairs};
-ghost use Rattle.bx_cnf.specs.Formulas.{IsClause, IsFormula};
+//! The clauses, the trail, and what tells which clause is active. It promises the least-numbered active
+//! clause for any trail; which literal is assigned, and when a variable is freed, is for the solver to
+//! say.
+ghost use Rattle.std.specs.Prelude.{◌≡◌, ◌++◌, ◌∷◌, [], ◌<◌, None, IfSome, IfOk, OnOk, length};
+ghost use Rattle.bx_cnf.specs.Formulas.{IsClause};
 ghost use Rattle.bx_cnf.specs.Assignments.{IsFree};
-ghost use Rattle.bx_watch.specs.Watching.{Watch, IsWatch, IsOver, IsLast, Frees, NoneActive, IsLeastActive};
-ghost use Rattle.bx_watch.specs.Readings.{IsValue, IsRead, AreValues};
+ghost use Rattle.bx_watch.specs.Watching.{IsWatch, IsOver, IsLast, Frees, NoneActive, IsLeastActive};
 
 use crate::active::Active;
+use crate::reading::{Reading, read};
+use crate::store::Store;
+use crate::trail::Trail;
+use crate::watches::Watches;
 use bx_cnf::{Clauses, Lit};
 use bx_logic::NoMemory;
 use std::alloc::Global;
@@ -14,47 +18,43 @@ use std::marker::Model;
 
 /// Clauses and a trail of literals. Contracts see the clauses as a list, the first having number 1, and
 /// the literals that are assigned in the order in which they were.
-#[derive(Debug, Drop)]
-pub struct Watched {
-    clauses: Clauses,
-    trail: Vec<Lit>,
-    // Of each variable, variable 1 first.
-    values: Vec<Option<bool>>,
+#[derive(Drop)]
+pub struct Watched<'a> {
+    store: Store<'a>,
+    trail: Trail,
+    watches: Watches,
+    // Not so after want of memory: then it stands for no clause at all, and refuses all further calls.
+    whole: bool,
 }
 
-impl Model for Watched {
-    ghost use Rattle.bx_watch.specs.Watching.{Watch, IsWatch};
-    ghost use Rattle.bx_watch.specs.Readings.{AreValues};
+impl<'a> Model for Watched<'a> {
+    ghost use Rattle.std.specs.Prelude.{◌≡◌, true};
+    ghost use Rattle.bx_watch.specs.Watching.{Watch};
 
     ghost Value = { Watch };
 
-    ghost view = { λ w. record { vars = w.clauses.vars; clauses = w.clauses.clauses; trail = w.trail.items } };
+    ghost use Rattle.bx_watch.specs.Keeping.{watch_of, tables_of, IsWhole};
 
-    ghost invariant = { λ w.
-        IsWatch (record { vars = w.clauses.vars; clauses = w.clauses.clauses; trail = w.trail.items }) × AreValues w.clauses.vars w.values.items w.trail.items };
+    ghost view = { λ w. watch_of w.whole w.store w.trail };
+
+    ghost invariant = { λ w. w.whole ≡ true → IsWhole w.store w.trail (tables_of w.watches) };
 }
 
-// What was read of a clause.
-#[derive(Clone, Copy)]
-enum Reading {
-    False,
-    Unit(Lit),
-    // A literal is true, or two aren't false.
-    Other,
-}
-
-impl Watched {
+impl<'a> Watched<'a> {
     /// These clauses, with no variable assigned.
-    pub fn new(alloc: Global, clauses: &Clauses) -> Result<Self, NoMemory>
+    pub fn new(alloc: Global, clauses: &'a Clauses) -> Result<Self, NoMemory>
         ensures value { IfOk result (λ w. w ≡ record { vars = clauses.now.vars; clauses = clauses.now.clauses; trail = [] }) }
         ensures formed { IfOk result IsWatch }
     {
-        let copy = copy_of(alloc, clauses)?;
-        let values = vec![in alloc; None; clauses.vars() as usize]?;
+        let store = Store::new(alloc, clauses);
+        let trail = Trail::new(alloc, clauses.vars())?;
+        let mut watches = Watches::new(alloc, &store, &trail)?;
+        watches.clean(&store, &trail);
         Ok(Watched {
-            clauses: copy,
-            trail: Vec::new(alloc),
-            values,
+            store,
+            trail,
+            watches,
+            whole: true,
         })
     }
 
@@ -68,8 +68,14 @@ impl Watched {
         requires is_free { IsFree self.old.trail lit }
         ensures ok { OnOk result (self.new ≡ record self.old { trail = self.old.trail ++ lit ∷ [] }) }
     {
+        if !self.whole {
+            return Err(NoMemory);
+        }
+        self.whole = false;
+        self.watches.falsify(!lit, &self.store, &self.trail)?;
         self.trail.push(lit)?;
-        self.values[lit.var() as usize - 1] = Some(lit.is_positive());
+        self.watches.clean(&self.store, &self.trail);
+        self.whole = true;
         Ok(())
     }
 
@@ -82,8 +88,13 @@ impl Watched {
         requires { IsLast self.old.trail var }
         ensures ok { OnOk result (Frees self.old self.new var) }
     {
-        self.trail.pop();
-        self.values[var as usize - 1] = None;
+        if !self.whole {
+            return Err(NoMemory);
+        }
+        if let Some(lit) = self.trail.pop() {
+            self.watches.release(lit, &self.trail);
+            self.watches.clean(&self.store, &self.trail);
+        }
         Ok(())
     }
 
@@ -97,7 +108,16 @@ impl Watched {
         requires room { length self.old.clauses < 4294967295 }
         ensures ok { OnOk result (self.new ≡ record self.old { clauses = self.old.clauses ++ literals.now ∷ [] }) }
     {
-        self.clauses.push(literals)
+        if !self.whole {
+            return Err(NoMemory);
+        }
+        self.whole = false;
+        self.store.push(literals)?;
+        let number = self.store.len() - 1;
+        self.watches.attach(number, &self.store, &self.trail)?;
+        self.watches.clean(&self.store, &self.trail);
+        self.whole = true;
+        Ok(())
     }
 
     /// The least-numbered clause that is unit or false, and none exactly where there is none. Takes no
@@ -107,87 +127,14 @@ impl Watched {
         ensures none { result ≡ None → NoneActive self.now.trail self.now.clauses }
         ensures formed { IsWatch self.now }
     {
-        for before in 0..self.clauses.len() {
-            match self.reading(self.clauses.clause(before + 1)) {
-                Reading::False => return Some(Active::False(before + 1)),
-                Reading::Unit(lit) => return Some(Active::Unit(before + 1, lit)),
-                Reading::Other => {}
-            }
+        if !self.whole {
+            return None;
         }
-        None
-    }
-
-    // What a clause is under the values.
-    fn reading(&self, clause: &[Lit]) -> Reading
-        requires { IsClause self.now.vars clause.now }
-        ensures { IsRead self.now.trail clause.now result }
-    {
-        let mut reading = Reading::False;
-        for lit in clause {
-            reading = reading.with(*lit, self.value(*lit));
-            if reading.is_other() {
-                return Reading::Other;
-            }
-        }
-        reading
-    }
-
-    // Whether a literal is true, none where its variable is free.
-    fn value(&self, lit: Lit) -> Option<bool>
-        requires { IsOver self.now.vars lit }
-        ensures { IsValue self.now.trail lit result }
-    {
-        match self.values[lit.var() as usize - 1] {
-            Some(value) => Some(value == lit.is_positive()),
-            None => None,
+        let number = self.watches.pending.least()?;
+        match read(self.store.clause(number), &self.trail) {
+            Reading::False => Some(Active::False(number + 1)),
+            Reading::Unit(lit) => Some(Active::Unit(number + 1, lit)),
+            Reading::Other => None,
         }
     }
-}
-
-impl Reading {
-    ghost use Rattle.std.specs.Prelude.{IsTrue, ◌↔◌, ◌≡◌, ◌++◌, ◌∷◌, [], ◌<◌, List, All};
-    ghost use Rattle.bx_cnf.specs.Assignments.{IsFree};
-    ghost use Rattle.bx_watch.specs.Readings.{IsValue, IsRead};
-    ghost use Rattle.bx_cnf.specs.Literals.{Literal};
-
-    // What is read of a clause with one more literal, of this value and over a variable of its own.
-    fn with(self, lit: Lit, value: Option<bool>) -> Self
-        ensures { (trail clause : List Literal) → IsRead trail clause self → IsValue trail lit value
-            → All (λ l. l.var < lit.var) clause → IsRead trail (clause ++ lit ∷ []) result }
-    {
-        match value {
-            Some(true) => Reading::Other,
-            Some(false) => self,
-            None => self.with_free(lit),
-        }
-    }
-
-    // The same where the variable of the literal is free.
-    fn with_free(self, lit: Lit) -> Self
-        ensures { (trail clause : List Literal) → IsRead trail clause self → IsFree trail lit
-            → All (λ l. l.var < lit.var) clause → IsRead trail (clause ++ lit ∷ []) result }
-    {
-        match self {
-            Reading::False => Reading::Unit(lit),
-            Reading::Unit(_) => Reading::Other,
-            Reading::Other => Reading::Other,
-        }
-    }
-
-    fn is_other(&self) -> bool
-        ensures { IsTrue result ↔ (self.now ≡ Reading.Other) }
-    {
-        matches!(self, Reading::Other)
-    }
-}
-
-// The same clauses once more.
-fn copy_of(alloc: Global, clauses: &Clauses) -> Result<Clauses, NoMemory>
-    ensures { IfOk result (λ copy. copy ≡ clauses.now) }
-{
-    let mut copy = Clauses::new(alloc, clauses.vars());
-    for before in 0..clauses.len() {
-        copy.push(clauses.clause(before + 1))?;
-    }
-    Ok(copy)
 }

@@ -1,42 +1,40 @@
-use Rattle.std.proofs.Common.{◌≡◌, ◌∙◌, ◌+◌, Some, slice_get, take, ap, sym, subst, arith}
-use Rattle.std.proofs.lemmas.List.{take_all}
-use Rattle.std.proofs.lemmas.List.Elements.{All-push}
-use Rattle.bx_cnf.specs.Assignments.{IsActive, IsUnit}
-use Rattle.bx_watch.specs.declared.watched.Reading.TheVariants.{False, Unit, Other}
-use Rattle.bx_watch.specs.Readings.{IsRead}
+use Rattle.std.proofs.Common.{◌≡◌, ◌+◌, true, List, sym, subst, rules}
+use Rattle.bx_cnf.specs.Assignments.{IsClauseFalse, IsUnit}
+use Rattle.bx_watch.specs.declared.reading.Reading.TheVariants.{False, Unit, Other}
 use Rattle.bx_watch.specs.Watching.{Watch, IsFirst, NoneActive}
-use Rattle.bx_watch.proofs.Firsts.{take-with, first-clause}
-use Rattle.bx_watch.proofs.ClauseReads.{blocked-inactive}
+use Rattle.bx_watch.specs.Readings.{IsRead}
+use Rattle.bx_watch.specs.Keeping.{tables_of}
+use Rattle.bx_watch.proofs.Events.{seen, none-active, first-pending, least-not-other}
 use Rattle.bx_watch.proofs.watched.Watched.least_active.Goals as goal
+
+pub returns-in_err-number-clause-none : goal.returns-in_err-number-clause-none
+returns-in_err-number-clause-none c _ =
+    let is : c.self.inside.whole ≡ true = search rules in
+    let whole = c.self.invariant is in
+    let view = seen c.self.inside.whole c.self.inside.store c.self.inside.trail c.args.self.now is c.self.view_is in
+    subst (λ (w : Watch). NoneActive w.trail w.clauses) view (none-active c.self.inside.store c.self.inside.trail.literals c.self.inside.watches.pending whole.pending (c.least.ensures.none (search rules)))
 
 pub returns-in-False-clause-some : goal.returns-in-False-clause-some
 returns-in-False-clause-some c =
-    let clause = c.clause.result.now in
-    let read : IsRead c.self.inside.trail.items clause False =
-    subst (λ (w : Watch). IsRead w.trail clause False) (sym c.self.view_is) (subst (IsRead c.args.self.now.trail clause) c.in-False.is c.reading.ensures) in
-    rw (← c.self.view_is) (first-clause _ c.loop-before.before clause _ c.clause.ensures.value read c.loop-before.invariant)
+    let is : c.self.inside.whole ≡ true = search rules in
+    let whole = c.self.invariant is in
+    let view = seen c.self.inside.whole c.self.inside.store c.self.inside.trail c.args.self.now is c.self.view_is in
+    subst (λ (w : Watch). IsFirst w (c.in_ok-number.number + 1) (IsClauseFalse w.trail)) view
+    (first-pending c.self.inside.store c.self.inside.trail (tables_of c.self.inside.watches) c.in_ok-number.number c.clause.result.now (IsClauseFalse c.self.inside.trail.literals) whole c.in_ok-number.ensures.some c.clause.ensures.value
+    (subst (IsRead c.self.inside.trail.literals c.clause.result.now) c.in-False.is c.read.ensures))
 
 pub returns-in-Unit-clause-some : goal.returns-in-Unit-clause-some
 returns-in-Unit-clause-some c =
-    let clause = c.clause.result.now in
-    let read : IsRead c.self.inside.trail.items clause (Unit c.in-Unit.lit) =
-    subst (λ (w : Watch). IsRead w.trail clause (Unit c.in-Unit.lit)) (sym c.self.view_is) (subst (IsRead c.args.self.now.trail clause) c.in-Unit.is c.reading.ensures) in
-    subst (λ (w : Watch). IsFirst w (c.loop-before.before + 1) (λ other. IsUnit w.trail other c.in-Unit.lit)) c.self.view_is
-    (first-clause _ c.loop-before.before clause (λ other. IsUnit c.self.inside.trail.items other c.in-Unit.lit) c.clause.ensures.value read c.loop-before.invariant)
+    let is : c.self.inside.whole ≡ true = search rules in
+    let whole = c.self.invariant is in
+    let view = seen c.self.inside.whole c.self.inside.store c.self.inside.trail c.args.self.now is c.self.view_is in
+    subst (λ (w : Watch). IsFirst w (c.in_ok-number.number + 1) (λ clause. IsUnit w.trail clause c.in-Unit.lit)) view
+    (first-pending c.self.inside.store c.self.inside.trail (tables_of c.self.inside.watches) c.in_ok-number.number c.clause.result.now (λ clause. IsUnit c.self.inside.trail.literals clause c.in-Unit.lit) whole c.in_ok-number.ensures.some c.clause.ensures.value
+    (subst (IsRead c.self.inside.trail.literals c.clause.result.now) c.in-Unit.is c.read.ensures))
 
-pub loop-before-preserved : goal.loop-before-preserved
-loop-before-preserved c =
-    let clause = c.clause.result.now in
-    let clauses = c.self.inside.clauses.clauses in
-    let trail = c.self.inside.trail.items in
-    let at : slice_get clauses c.loop-before.before ≡ Some clause = ap (slice_get clauses) (omega arith) ∙ c.clause.ensures.value in
-    let read : IsRead trail clause Other =
-    subst (λ (w : Watch). IsRead w.trail clause Other) (sym c.self.view_is) (subst (IsRead c.args.self.now.trail clause) c.in-Other.is c.reading.ensures) in
-    subst (NoneActive trail) (sym (take-with clauses c.loop-before.before clause at))
-    (All-push (λ other. IsActive trail other → ⊥) (take c.loop-before.before clauses) clause c.loop-before.invariant (blocked-inactive trail clause c.self.invariant.0.apart read))
-
-pub returns-clause-none : goal.returns-clause-none
-returns-clause-none c _ =
-    let clauses = c.self.inside.clauses.clauses in
-    let all : take c.loop-before.before clauses ≡ clauses = take_all c.loop-before.before clauses (omega (arith, c.loop-before-test.false, c.len-before-end.ensures.count)) in
-    subst (λ (w : Watch). NoneActive w.trail w.clauses) c.self.view_is (subst (NoneActive c.self.inside.trail.items) all c.loop-before.invariant)
+pub returns-in-Other-clause-none : goal.returns-in-Other-clause-none
+returns-in-Other-clause-none c _ =
+    let is : c.self.inside.whole ≡ true = search rules in
+    let whole = c.self.invariant is in
+    absurd (least-not-other c.self.inside.store c.self.inside.trail (tables_of c.self.inside.watches) c.in_ok-number.number c.clause.result.now whole c.in_ok-number.ensures.some c.clause.ensures.value
+    (subst (IsRead c.self.inside.trail.literals c.clause.result.now) c.in-Other.is c.read.ensures))

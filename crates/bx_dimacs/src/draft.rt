@@ -8,7 +8,7 @@ use std::alloc::Global;
 use std::marker::Model;
 
 /// A number of variables, and clauses over them. Contracts see it as a formula.
-#[derive(Debug, Drop)]
+#[derive(Drop)]
 pub(crate) struct Draft {
     vars: u32,
     clauses: Flat<Lit>,
@@ -38,7 +38,8 @@ impl Draft {
 
     /// The number of variables.
     pub(crate) fn vars(&self) -> u32
-        ensures { result ≡ self.now.vars }
+        ensures vars { result ≡ self.now.vars }
+        ensures formed { IsFormula self.now }
     {
         self.vars
     }

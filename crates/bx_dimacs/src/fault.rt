@@ -4,7 +4,7 @@ use bx_logic::NoMemory;
 use thiserror::Error;
 
 /// Why no formula was read.
-#[derive(Clone, Copy, Debug, PartialEq, Eq, Error)]
+#[derive(Clone, Copy, Debug, Error)]
 pub enum FormulaFault {
     /// The first line that can't be read, counted from 1. Where clauses are missing it is the line behind
     /// the last.
@@ -27,7 +27,7 @@ impl From<NoMemory> for FormulaFault {
 }
 
 /// Why no proof was read.
-#[derive(Clone, Copy, Debug, PartialEq, Eq, Error)]
+#[derive(Clone, Copy, Debug, Error)]
 pub enum ProofFault {
     /// The first line that can't be read, counted from 1.
     #[error("line {0} is no line of a proof")]

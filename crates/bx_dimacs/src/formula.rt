@@ -1,8 +1,12 @@
 //! Reading a formula: the header, and then number after number. What a clause is made of is gathered up to
 //! the 0 that ends it, so that lines part nothing.
-ghost use Rattle.std.specs.Prelude.{◌^◌, ◌<◌, ◌≤◌, ◌⊎◌, length, ℕ, ◌≡◌, Err, IfOk, IfErr, IsTrue};
+ghost use Rattle.std.specs.Prelude.{◌^◌, ◌+◌, ◌<◌, ◌≤◌, ◌⊎◌, length, ℕ, ◌≡◌, ◌≢◌, pos, Ok, Err, IfOk, IfErr, IsTrue, Some, option_map, is_some};
 ghost use Rattle.bx_cnf.specs.Formulas.{IsFormula};
-ghost use Rattle.bx_dimacs.specs.Faults.{IsFormulaLine};
+ghost use Rattle.bx_cnf.specs.Literals.{literal_of as literal_in};
+ghost use Rattle.bx_dimacs.specs.Words.{words_of, number_of as number_in};
+ghost use Rattle.bx_dimacs.specs.FormulaTexts.{FormulaText, formula_of, header_behind, clauses_behind, header_of as header_in, headed, with_words, with_word, with_number, with_literal, ended, is_full as is_whole};
+ghost use Rattle.bx_dimacs.specs.Keeping.{Keeps};
+ghost use Rattle.bx_dimacs.specs.Faults.{IsFormulaLine, IsStuckAt};
 
 use crate::FormulaFault;
 use crate::draft::Draft;
@@ -16,7 +20,7 @@ use std::alloc::Global;
 const MAX_VARIABLE: u32 = 2_147_483_647;
 
 /// A formula that was read.
-#[derive(Debug, Drop)]
+#[derive(Drop)]
 pub struct DimacsFormula {
     /// The clauses, by their numbers in the file. Each tautology among them has two variables of its own,
     /// beyond those that the file declares.
@@ -31,6 +35,10 @@ pub struct DimacsFormula {
 ///
 /// The first line that can't be read, or `NoMemory`.
 pub fn read_formula(alloc: Global, text: &[u8]) -> Result<DimacsFormula, FormulaFault>
+    // It keeps what the text says, as it declares it.
+    ensures said { IfOk result (λ read. (said : FormulaText) × (formula_of text.now ≡ Ok said) × (read.vars ≡ said.vars) × Keeps said read.clauses) }
+    // It is refused where the text is stuck, and that line is told.
+    ensures stuck { IfErr result (IsStuckAt (formula_of text.now)) }
     // What is read is a formula, over the declared variables and maybe more.
     ensures formed { IfOk result (λ read. IsFormula read.clauses) }
     ensures declared { IfOk result (λ read. read.vars ≤ read.clauses.vars) }
@@ -54,7 +62,10 @@ struct Header {
 
 // Reads the header, the first line that is no comment.
 fn read_header(lines: &mut Lines) -> Result<Header, FormulaFault>
-    ensures { IfErr result IsFormulaLine }
+    ensures said { IfOk result (λ header. header_behind lines.old.number lines.old.rest.now
+        ≡ clauses_behind (headed header.vars header.clauses) lines.new.number lines.new.rest.now) }
+    ensures stuck { IfErr result (IsStuckAt (header_behind lines.old.number lines.old.rest.now)) }
+    ensures counted { IfErr result IsFormulaLine }
 {
     let Some(line) = lines.next() else {
         return Err(FormulaFault::BadLine(lines.next_number()));
@@ -66,17 +77,29 @@ fn read_header(lines: &mut Lines) -> Result<Header, FormulaFault>
 }
 
 // The header that a line is.
-fn header_of(line: &[u8]) -> Option<Header> {
+fn header_of(line: &[u8]) -> Option<Header>
+    ensures { option_map (λ header. headed header.vars header.clauses) result ≡ header_in (words_of line.now) }
+{
     let rest = behind_word(line, b"p")?;
     let rest = behind_word(rest, b"cnf")?;
     let (vars, rest) = word_at(rest)?;
     let (clauses, rest) = word_at(rest)?;
-    let vars = u32::try_from(number_of(vars)?).ok()?;
-    let clauses = u32::try_from(number_of(clauses)?).ok()?;
-    if vars > MAX_VARIABLE || word_at(rest).is_some() {
+    if word_at(rest).is_some() {
+        return None;
+    }
+    let vars = count_of(vars)?;
+    let clauses = count_of(clauses)?;
+    if vars > MAX_VARIABLE {
         return None;
     }
     Some(Header { vars, clauses })
+}
+
+// The number that a word of digits spells, of 32 bits at most.
+fn count_of(word: &[u8]) -> Option<u32>
+    ensures { result ≡ number_in 32 word.now }
+{
+    u32::try_from(number_of(word)?).ok()
 }
 
 // What was read so far: clauses, and literals of one that has no end yet.
@@ -85,12 +108,15 @@ struct Reading {
     header: Header,
     draft: Draft,
     literals: Vec<Lit>,
-    ghost declared: { header.vars ≤ draft.vars },
 }
 
 impl Reading {
+    ghost use Rattle.bx_dimacs.specs.Shown.{Shows, GoesOn};
+
     // Nothing behind the header. Takes no memory.
-    fn new(alloc: Global, header: Header) -> Self {
+    fn new(alloc: Global, header: Header) -> Self
+        ensures { Shows result (headed header.vars header.clauses) }
+    {
         let draft = Draft::new(alloc, header.vars);
         Reading {
             header,
@@ -101,7 +127,11 @@ impl Reading {
 
     // Reads the clauses, up to a line that begins with `%` or to the end of the text.
     fn read_clauses(&mut self, lines: &mut Lines) -> Result<(), FormulaFault>
-        ensures { IfErr result IsFormulaLine }
+        ensures said { (text : FormulaText) → Shows self.old text → IfOk result (λ _. (said : FormulaText)
+            × (clauses_behind text lines.old.number lines.old.rest.now ≡ Ok said) × Shows self.new said) }
+        ensures stuck { (text : FormulaText) → Shows self.old text
+            → IfErr result (IsStuckAt (clauses_behind text lines.old.number lines.old.rest.now)) }
+        ensures counted { IfErr result IsFormulaLine }
     {
         while let Some(line) = lines.next() {
             if behind_word(line, b"%").is_some() {
@@ -117,7 +147,9 @@ impl Reading {
     // Whether all clauses were read, where no more come from this line on.
     fn end(&self, line: u64) -> Result<(), FormulaFault>
         requires { 0 < line }
-        ensures { IfErr result IsFormulaLine }
+        ensures said { (text : FormulaText) → Shows self.now text → IfOk result (λ _. ended line text ≡ Ok text) }
+        ensures stuck { (text : FormulaText) → Shows self.now text → IfErr result (IsStuckAt (ended line text)) }
+        ensures counted { IfErr result IsFormulaLine }
     {
         if self.is_full() && self.literals.is_empty() {
             Ok(())
@@ -128,13 +160,16 @@ impl Reading {
 
     // Whether there are as many clauses as the header declares.
     fn is_full(&self) -> bool
-        ensures { IsTrue result ⊎ (length self.now.draft.clauses < 4294967295) }
+        ensures whole { (text : FormulaText) → Shows self.now text → result ≡ is_whole text }
+        ensures room { IsTrue result ⊎ (length self.now.draft.clauses < 4294967295) }
     {
         self.draft.len() >= self.header.clauses
     }
 
     // Reads a line, and tells whether it could be read.
-    fn read_line(&mut self, line: &[u8]) -> Result<bool, NoMemory> {
+    fn read_line(&mut self, line: &[u8]) -> Result<bool, NoMemory>
+        ensures { (text : FormulaText) → Shows self.old text → IfOk result (λ is. GoesOn self.new is (with_words text (words_of line.now))) }
+    {
         let mut rest = line;
         while let Some((word, behind)) = word_at(rest) {
             if !self.read_word(word)? {
@@ -146,7 +181,9 @@ impl Reading {
     }
 
     // Reads a word, likewise.
-    fn read_word(&mut self, word: &[u8]) -> Result<bool, NoMemory> {
+    fn read_word(&mut self, word: &[u8]) -> Result<bool, NoMemory>
+        ensures { (text : FormulaText) → Shows self.old text → IfOk result (λ is. GoesOn self.new is (with_word text word.now)) }
+    {
         if self.is_full() {
             return Ok(false);
         }
@@ -158,7 +195,10 @@ impl Reading {
     }
 
     // Reads a literal, likewise.
-    fn read_literal(&mut self, number: i64) -> Result<bool, NoMemory> {
+    fn read_literal(&mut self, number: i64) -> Result<bool, NoMemory>
+        requires { number ≢ pos 0 }
+        ensures { (text : FormulaText) → Shows self.old text → IfOk result (λ is. GoesOn self.new is (with_literal text (literal_in number))) }
+    {
         let Some(literal) = literal_of(number) else {
             return Ok(false);
         };
@@ -172,24 +212,27 @@ impl Reading {
     // Ends the clause, likewise: with a tautology more there may be too many variables.
     fn end_clause(&mut self) -> Result<bool, NoMemory>
         requires { length self.old.draft.clauses < 4294967295 }
+        ensures { (text : FormulaText) → Shows self.old text → IfOk result (λ is. GoesOn self.new is (with_number text (Some (pos 0)))) }
     {
         put_in_order(&mut self.literals);
         if is_clause(&self.literals, self.draft.vars()) {
             self.draft.push(&self.literals)?;
-        } else {
-            if self.draft.vars() > MAX_VARIABLE - 2 {
-                return Ok(false);
-            }
-            self.draft.push_apart()?;
+            self.literals.clear();
+            return Ok(true);
         }
+        if self.draft.vars() > MAX_VARIABLE - 2 {
+            return Ok(false);
+        }
+        self.draft.push_apart()?;
         self.literals.clear();
         Ok(true)
     }
 
     // The formula.
     fn into_formula(self, alloc: Global) -> Result<DimacsFormula, FormulaFault>
-        ensures declared { IfOk result (λ read. read.vars ≤ read.clauses.vars) }
-        ensures counted { IfErr result IsFormulaLine }
+        ensures vars { IfOk result (λ read. read.vars ≡ self.header.vars) }
+        ensures clauses { IfOk result (λ read. read.clauses ≡ self.draft) }
+        ensures memory { IfErr result (λ fault. fault ≡ FormulaFault.NoMemory) }
     {
         let vars = self.header.vars;
         let clauses = self.draft.into_clauses(alloc)?;

@@ -31,6 +31,7 @@
 mod draft;
 mod fault;
 mod formula;
+pub mod laws;
 mod line;
 mod literals;
 mod proof;
@@ -40,6 +41,3 @@ mod scan;
 pub use fault::{FormulaFault, ProofFault};
 pub use formula::{DimacsFormula, read_formula};
 pub use proof::{LratProof, read_proof};
-
-#[cfg(test)]
-mod tests;

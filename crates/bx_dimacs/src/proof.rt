@@ -10,7 +10,7 @@ use bx_proof::Steps;
 use std::alloc::Global;
 
 /// The steps of a proof, up to and with the first that is empty, or up to the first that can't pass.
-#[derive(Debug, Drop)]
+#[derive(Drop)]
 pub struct LratProof {
     /// The steps, numbered on from the clauses of the formula.
     pub steps: Steps,

@@ -1,5 +1,5 @@
 -- A text that was put out to be said, and what the end of a run says then.
-use Rattle.std.proofs.Common.{◌≡◌, ℕ, true, false, true≢false, List, [], ◌++◌, Result, Ok, Err, OnOk, sym, ◌∙◌, subst, refl}
+use Rattle.std.proofs.Common.{◌≡◌, ℕ, true, false, true≢false, List, [], ◌++◌, Option, Result, Ok, Err, OnOk, sym, ◌∙◌, subst, refl}
 use Rattle.std.specs.Prelude.{is_err, OnErr}
 use Rattle.std.proofs.lemmas.List.{append-nil}
 use Rattle.bx_desk.specs.Desk.{DeskState, Says, PutsFront}
@@ -11,6 +11,9 @@ use Rattle.bx_desk.specs.declared.target.Target.TheVariants.{Output}
 use Rattle.bx_desk.proofs.Put.{puts_piece, puts_front}
 use Rattle.bx_sat.specs.declared.status.SatStatus.{SatStatus}
 use Rattle.bx_sat.specs.declared.status.SatStatus.TheVariants.{Failed as NotSaid}
+use Rattle.bx_cnf.specs.Formulas.{Formula}
+use Rattle.bx_dimacs.specs.declared.formula.DimacsFormula.{DimacsFormula}
+use Rattle.bx_sat.specs.Files.{IsFormulaIn, IsBadLineIn}
 use Rattle.bx_sat.specs.Sayings.{EndsSaying, done, failed}
 
 -- all of the text was said
@@ -54,3 +57,10 @@ kept (Err e) P none h = absurd (true≢false none)
 pub unkept_is : {T E : Type 0} (r : Result T E) (P : Type 0) → is_err r ≡ true → OnErr r P → P
 unkept_is (Ok x) P some h = absurd (true≢false (sym some))
 unkept_is (Err e) P some h = h
+
+-- what was read of a desk's file, where another desk shows the same
+pub moved_in : (old new : DeskState) (name : List ℕ) (read : DimacsFormula) → old ≡ new → IsFormulaIn old name read → IsFormulaIn new name read
+moved_in old new name read same is = subst (λ (s : DeskState). IsFormulaIn s name read) same is
+
+pub bad_in : (of : Option Formula) (old new : DeskState) (name : List ℕ) (line : ℕ) → old ≡ new → IsBadLineIn of old name line → IsBadLineIn of new name line
+bad_in of old new name line same is = subst (λ (s : DeskState). IsBadLineIn of s name line) same is

@@ -2,6 +2,7 @@
 use Rattle.std.specs.Prelude.{◌≡◌, ℕ, ◌≤◌, codes, Option, Some, None}
 use Rattle.bx_desk.specs.Desk.{DeskState, Starts, Writes}
 use Rattle.bx_cnf.specs.Formulas.{Formula}
+use Rattle.bx_dimacs.specs.declared.formula.DimacsFormula.{DimacsFormula}
 use Rattle.bx_dimacs.specs.declared.proof.LratProof.{LratProof}
 use Rattle.bx_proof.specs.Texts.{log_text}
 use Rattle.bx_says.specs.Texts.{Text}
@@ -11,7 +12,7 @@ use Rattle.bx_sat.specs.declared.checking.Verdict.{Verdict}
 use Rattle.bx_sat.specs.declared.solving.Answer.{Answer}
 use Rattle.bx_sat.specs.declared.solving.Answer.TheVariants.{Unsatisfiable}
 use Rattle.bx_sat.specs.Answers.{verdict_status, verdict_text, answer_status, answer_text}
-use Rattle.bx_sat.specs.Files.{FailsToRead, FailsToWrite}
+use Rattle.bx_sat.specs.Files.{IsFormulaIn, IsBadLineIn, FailsToRead, FailsToWrite}
 use Rattle.bx_sat.specs.Findings.{used, IsEnd, IsRight}
 use Rattle.bx_sat.specs.Sayings.{EndsSaying, bad_line_text}
 use Rattle.bx_sat.specs.Verdicts.{IsProofVerdict}
@@ -20,12 +21,12 @@ use Rattle.bx_sat.specs.Words.{Request, check, solve}
 abbrev pub usage_text : Text
 usage_text = codes "the words are check FORMULA PROOF or solve FORMULA BUDGET [PROOF]\n"
 
--- there is no answer: a line of the file of this name can't be read, which is said; or the file can't, or memory was
--- refused, and nothing is written or said
-pub data Unanswered (name : Text) (old new : DeskState) (result : SatStatus) : Type 0 where
-  unread : (line : ℕ) → EndsSaying old new BadLine (bad_line_text name line) result → Unanswered name old new result
-  broken : FailsToRead old new name → result ≡ Failed → Unanswered name old new result
-  refused : new ≡ old → result ≡ NoMemory → Unanswered name old new result
+-- there is no answer: the text of the file of this name is stuck at a line, which is said; or the file can't be read, or
+-- memory was refused, and nothing is written or said
+pub data Unanswered (of : Option Formula) (name : Text) (old new : DeskState) (result : SatStatus) : Type 0 where
+  unread : (line : ℕ) → IsBadLineIn of old name line → EndsSaying old new BadLine (bad_line_text name line) result → Unanswered of name old new result
+  broken : FailsToRead old new name → result ≡ Failed → Unanswered of name old new result
+  refused : new ≡ old → result ≡ NoMemory → Unanswered of name old new result
 
 -- the proof of an answer is in the file that is to have it, and else nothing was written
 abbrev pub KeepsProof : DeskState → DeskState → Answer → Option Text → Type 0
@@ -37,23 +38,26 @@ abbrev pub FailsToKeep : DeskState → DeskState → Answer → Option Text → 
 FailsToKeep old new (Unsatisfiable log) (Some name) = FailsToWrite old new name (log_text log)
 FailsToKeep old new answer name = ⊥
 
--- it says what a proof is for a formula, each as it was read from the files of these names
+-- it says what a proof is for the formula of the file of this name, as it was read from the file of the other
 pub data EndsCheck (formula_name proof_name : Text) (old new : DeskState) (result : SatStatus) : Type 0 where
-  checked : (formula : Formula) (proof : LratProof) (verdict : Verdict) → IsProofVerdict formula proof verdict
+  checked : (formula : DimacsFormula) (proof : LratProof) (verdict : Verdict) → IsFormulaIn old formula_name formula
+      → IsProofVerdict formula.clauses proof verdict
       → EndsSaying old new (verdict_status verdict) (verdict_text verdict) result → EndsCheck formula_name proof_name old new result
-  no_formula : Unanswered formula_name old new result → EndsCheck formula_name proof_name old new result
-  no_proof : Unanswered proof_name old new result → EndsCheck formula_name proof_name old new result
+  no_formula : Unanswered None formula_name old new result → EndsCheck formula_name proof_name old new result
+  no_proof : (formula : DimacsFormula) → IsFormulaIn old formula_name formula → Unanswered (Some formula.clauses) proof_name old new result
+      → EndsCheck formula_name proof_name old new result
 
--- it says what the search of a formula ends with, within what is used of this budget, and before that keeps the proof;
+-- it says what the search of the formula of the file of this name ends with, within what is used of this budget, and before that keeps the proof;
 -- of a solution it says the values of the variables that the file declares, which the formula has; where the proof
 -- can't be kept, it says nothing
 pub data EndsSolve (name : Text) (budget : ℕ) (proof : Option Text) (old new : DeskState) (result : SatStatus) : Type 0 where
-  solved : (mid : DeskState) (formula : Formula) (vars : ℕ) (answer : Answer) → vars ≤ formula.vars
-      → IsEnd formula (used formula budget) answer → IsRight formula answer → KeepsProof old mid answer proof
-      → EndsSaying mid new (answer_status answer) (answer_text vars answer) result → EndsSolve name budget proof old new result
-  unkept : (formula : Formula) (answer : Answer) → IsEnd formula (used formula budget) answer → IsRight formula answer
+  solved : (mid : DeskState) (formula : DimacsFormula) (answer : Answer) → IsFormulaIn old name formula → formula.vars ≤ formula.clauses.vars
+      → IsEnd formula.clauses (used formula.clauses budget) answer → IsRight formula.clauses answer → KeepsProof old mid answer proof
+      → EndsSaying mid new (answer_status answer) (answer_text formula.vars answer) result → EndsSolve name budget proof old new result
+  unkept : (formula : DimacsFormula) (answer : Answer) → IsFormulaIn old name formula
+      → IsEnd formula.clauses (used formula.clauses budget) answer → IsRight formula.clauses answer
       → FailsToKeep old new answer proof → result ≡ Failed → EndsSolve name budget proof old new result
-  no_formula : Unanswered name old new result → EndsSolve name budget proof old new result
+  no_formula : Unanswered None name old new result → EndsSolve name budget proof old new result
 
 -- What is asked for is done, or said to be wrong; and where nothing is asked for, the usage is said.
 abbrev pub EndsRun : Option Request → DeskState → DeskState → SatStatus → Type 0

@@ -11,7 +11,7 @@ use bx_logic::NoMemory;
 use std::alloc::Global;
 
 /// What a proof is.
-#[derive(Clone, Copy, Debug, PartialEq, Eq)]
+#[derive(Clone, Copy)]
 pub enum Verdict {
     /// Its steps are accepted.
     Verified,

@@ -11,6 +11,7 @@
 
 mod checking;
 mod command;
+pub mod laws;
 mod load;
 mod run;
 mod say;
@@ -21,6 +22,3 @@ pub use checking::{Verdict, verify};
 pub use run::run_sat;
 pub use solving::{Answer, decide};
 pub use status::SatStatus;
-
-#[cfg(test)]
-mod tests;

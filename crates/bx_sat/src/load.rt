@@ -1,7 +1,8 @@
 //! Reading the two files of a run. Only a load that fails changes the desk, and then its count of such failures alone.
 
-ghost use Rattle.std.specs.Prelude.{◌≡◌, ◌+◌, ◌≤◌, length, IfOk, IfErr, OnOk};
-ghost use Rattle.bx_sat.specs.Files.{LeavesUnread};
+ghost use Rattle.std.specs.Prelude.{◌≡◌, ◌+◌, ◌≤◌, length, IfOk, IfErr, OnOk, Some, None};
+ghost use Rattle.bx_desk.specs.Desk.{IsFile};
+ghost use Rattle.bx_sat.specs.Files.{IsFormulaIn, LeavesUnloaded, LeavesUnread};
 
 use bx_cnf::Clauses;
 use bx_desk::{Desk, LoadFault};
@@ -12,7 +13,7 @@ use std::alloc::Global;
 const LONGEST: u64 = 68_719_476_736;
 
 /// Why a file wasn't read.
-#[derive(Clone, Copy, Debug, PartialEq, Eq)]
+#[derive(Clone, Copy)]
 pub(crate) enum Unread {
     /// Its first line that can't be read.
     BadLine(u64),
@@ -28,9 +29,10 @@ pub(crate) fn load_formula<D: Desk>(
     name: &str,
     desk: &mut D,
 ) -> Result<DimacsFormula, Unread>
+    ensures said { IfOk result (IsFormulaIn (D.state desk.old) name.now) }
     ensures declared { IfOk result (λ formula. formula.vars ≤ formula.clauses.vars) }
     ensures ok_stays { OnOk result (D.state desk.new ≡ D.state desk.old) }
-    ensures err { IfErr result (LeavesUnread (D.state desk.old) (D.state desk.new) name.now) }
+    ensures err { IfErr result (LeavesUnread None (D.state desk.old) (D.state desk.new) name.now) }
 {
     let text = load(alloc, name, desk)?;
     read_formula(alloc, &text).map_err(|fault| match fault {
@@ -49,7 +51,7 @@ pub(crate) fn load_proof<D: Desk>(
     ensures numbered { IfOk result (λ proof. proof.steps.first ≡ length clauses.now.clauses + 1) }
     ensures named { IfOk result (λ proof. length proof.ids.items ≡ length proof.steps.steps) }
     ensures ok_stays { OnOk result (D.state desk.new ≡ D.state desk.old) }
-    ensures err { IfErr result (LeavesUnread (D.state desk.old) (D.state desk.new) name.now) }
+    ensures err { IfErr result (LeavesUnread (Some clauses.now) (D.state desk.old) (D.state desk.new) name.now) }
 {
     let text = load(alloc, name, desk)?;
     read_proof(alloc, clauses, &text).map_err(|fault| match fault {
@@ -60,8 +62,9 @@ pub(crate) fn load_proof<D: Desk>(
 
 // The bytes of a file.
 fn load<D: Desk>(alloc: Global, name: &str, desk: &mut D) -> Result<Vec<u8>, Unread>
+    ensures whole { IfOk result (λ text. IsFile (D.state desk.old).files name.now text.items) }
     ensures ok_stays { OnOk result (D.state desk.new ≡ D.state desk.old) }
-    ensures err { IfErr result (LeavesUnread (D.state desk.old) (D.state desk.new) name.now) }
+    ensures err { IfErr result (LeavesUnloaded (D.state desk.old) (D.state desk.new) name.now) }
 {
     let mut text = Vec::new(alloc);
     match desk.load(name, LONGEST, &mut text) {

@@ -1,6 +1,7 @@
 //! The one call that the program makes: from its words to what is said, and a status.
 
-ghost use Rattle.std.specs.Prelude.{◌≡◌, ◌<◌, length, IsSome, OnOk, OnErr};
+ghost use Rattle.std.specs.Prelude.{◌≡◌, ◌<◌, length, Option, IsSome, OnOk, OnErr};
+ghost use Rattle.bx_cnf.specs.Formulas.{Formula};
 ghost use Rattle.bx_desk.specs.Desk.{DeskState, Starts, Writes, WritesFront};
 ghost use Rattle.bx_proof.specs.Steps.{StepList};
 ghost use Rattle.bx_proof.specs.Texts.{log_text};
@@ -125,7 +126,8 @@ fn put_proof<D: Desk>(steps: &Steps, desk: &mut D) -> Result<(), Failed>
 
 // Says why a file wasn't read.
 fn say_unread<D: Desk>(name: &str, fault: Unread, desk: &mut D) -> SatStatus
-    ensures { (old : DeskState) → LeavesUnread old (D.state desk.old) name.now fault → Unanswered name.now old (D.state desk.new) result }
+    ensures { (of : Option Formula) (old : DeskState) → LeavesUnread of old (D.state desk.old) name.now fault
+        → Unanswered of name.now old (D.state desk.new) result }
 {
     match fault {
         Unread::BadLine(line) => say_bad_line(name, line, desk),

@@ -14,7 +14,7 @@ use std::alloc::Global;
 const MAX_ID: u32 = 4_294_967_295;
 
 /// What is known of a formula.
-#[derive(Debug, Drop)]
+#[derive(Drop)]
 pub enum Answer {
     /// These bits, one for each variable, make all clauses true.
     Satisfiable(Bits),

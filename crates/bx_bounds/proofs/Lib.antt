@@ -8,4 +8,3 @@ pub mod Chains
 pub mod BitRows
 pub mod RowSteps
 pub mod Crossings
-pub mod PassingNetworks

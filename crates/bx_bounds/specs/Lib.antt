@@ -6,4 +6,3 @@ pub mod Refutes
 pub mod Precedes
 pub mod Rows
 pub mod NoLayout
-pub mod WrittenOut

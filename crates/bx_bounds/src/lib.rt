@@ -15,8 +15,3 @@ mod windows;
 
 pub use counting::{check_count, refute};
 pub use rows::MOST_NODES;
-
-#[cfg(test)]
-mod networks;
-#[cfg(test)]
-mod tests;

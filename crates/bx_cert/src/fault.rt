@@ -5,7 +5,7 @@ use std::alloc::AllocFailed;
 use thiserror::Error;
 
 /// Why no certificate was read.
-#[derive(Clone, Copy, Debug, PartialEq, Eq, Error)]
+#[derive(Clone, Copy, Debug, Error)]
 pub enum CertFault {
     /// The first bad line, counted from 1: up to it the lines aren't those of any certificate.
     #[error("line {0} is no line of a certificate")]

@@ -39,6 +39,3 @@ pub use parts::{CertLast, MOST_BUDGET, Section, Sections, Spot, Spots};
 pub use read::read_cert;
 pub use value::Cert;
 pub use write::write_cert;
-
-#[cfg(test)]
-mod tests;

@@ -5,7 +5,7 @@ use crate::Spot;
 use bx_grid::{CountProof, Limits, Ratio};
 
 /// A line of a certificate that is no line of a step.
-#[derive(Clone, Copy, Debug)]
+#[derive(Clone, Copy)]
 pub enum Line {
     /// `bestagon cert 1`: the first line.
     Head,

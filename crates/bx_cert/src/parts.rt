@@ -10,7 +10,7 @@ use std::marker::Model;
 pub const MOST_BUDGET: u64 = 67_108_864;
 
 /// The place of a node: its column and its row, each from 0.
-#[derive(Clone, Copy, Debug, PartialEq, Eq)]
+#[derive(Clone, Copy)]
 pub struct Spot {
     /// The column.
     pub x: u32,
@@ -19,7 +19,7 @@ pub struct Spot {
 }
 
 /// The places of nodes, by the node's number. Contracts see them as this list.
-#[derive(Debug, Drop)]
+#[derive(Drop)]
 pub struct Spots {
     spots: Vec<Spot>,
 }
@@ -57,7 +57,7 @@ impl Spots {
 }
 
 /// A ratio that was refuted, and why it has no layout.
-#[derive(Debug, Drop)]
+#[derive(Drop)]
 pub struct Section {
     /// The ratio.
     pub ratio: Ratio,
@@ -66,7 +66,7 @@ pub struct Section {
 }
 
 /// Sections, in the order in which the ratios were tried. Contracts see them as this list.
-#[derive(Debug, Drop)]
+#[derive(Drop)]
 pub struct Sections {
     sections: Vec<Section>,
 }
@@ -104,7 +104,7 @@ impl Sections {
 }
 
 /// How a search ended.
-#[derive(Debug, Drop)]
+#[derive(Drop)]
 pub enum CertLast {
     /// This ratio has a layout, in which the nodes have these places.
     Found(Ratio, Spots),

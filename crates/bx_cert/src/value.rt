@@ -8,7 +8,7 @@ use std::marker::Model;
 
 /// The limits and the budget of a search, a section for each ratio that was refuted, and how it ended.
 /// Contracts see the record of these four.
-#[derive(Debug, Drop)]
+#[derive(Drop)]
 pub struct Cert {
     limits: Limits,
     budget: u64,

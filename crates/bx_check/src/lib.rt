@@ -13,6 +13,3 @@ pub mod laws;
 mod left;
 
 pub use checker::{check, first_failure};
-
-#[cfg(test)]
-mod tests;

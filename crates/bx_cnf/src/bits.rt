@@ -5,7 +5,7 @@ ghost use Rattle.std.specs.Prelude.{◌≡◌, List, Bool};
 use std::marker::Model;
 
 /// One value for each variable. Contracts see it as the list of them.
-#[derive(Debug, Drop)]
+#[derive(Drop)]
 pub struct Bits {
     values: Vec<bool>,
 }

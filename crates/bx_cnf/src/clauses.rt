@@ -10,7 +10,7 @@ use std::alloc::Global;
 use std::marker::Model;
 
 /// A formula: a number of variables, and clauses, numbered from 1. Contracts see it as these two.
-#[derive(Debug, Drop)]
+#[derive(Drop)]
 pub struct Clauses {
     vars: u32,
     clauses: Flat<Lit>,

@@ -8,7 +8,7 @@ use std::marker::Model;
 
 /// Lists of items, of which there are fewer than 4,294,967,296 in all. Contracts see it as the list of
 /// the lists.
-#[derive(Debug, Drop)]
+#[derive(Drop)]
 pub struct Flat<T> {
     items: Vec<T>,
     // where each list ends; it begins where the one before ends, and the first at 0

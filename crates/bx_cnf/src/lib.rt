@@ -17,6 +17,3 @@ pub use bits::Bits;
 pub use clauses::{Clauses, all_true, is_clause};
 pub use flat::Flat;
 pub use lit::Lit;
-
-#[cfg(test)]
-mod tests;

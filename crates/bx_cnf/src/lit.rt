@@ -7,7 +7,7 @@ use std::ops::Not;
 
 /// A variable, numbered from 1 to 2,147,483,647, or its negation. Contracts see its variable and whether
 /// it is positive.
-#[derive(Clone, Copy, Debug, PartialEq, Eq)]
+#[derive(Clone, Copy, PartialEq, Eq)]
 pub struct Lit {
     number: i32,
 }

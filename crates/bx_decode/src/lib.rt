@@ -22,6 +22,3 @@ pub mod laws;
 mod read;
 
 pub use read::decode;
-
-#[cfg(test)]
-mod tests;

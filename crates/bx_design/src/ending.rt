@@ -4,7 +4,7 @@ use bx_grid::Ratio;
 use bx_layout::{FormGrid, Layout};
 
 /// How a search for a layout ended.
-#[derive(Debug, Drop)]
+#[derive(Drop)]
 pub enum Ending {
     /// This layout was found, with the form of each tile.
     Found(Layout, FormGrid),

@@ -24,7 +24,7 @@ use bx_verdict::{Last, Settled, settle};
 use std::alloc::Global;
 
 /// How the search for a layout ended, and the certificate of it.
-#[derive(Debug, Drop)]
+#[derive(Drop)]
 pub struct Design {
     /// Why each earlier ratio has no layout, and how the search ended.
     pub cert: Cert,

@@ -14,6 +14,3 @@ pub mod laws;
 
 pub use ending::Ending;
 pub use find::{Design, find_design};
-
-#[cfg(test)]
-mod tests;

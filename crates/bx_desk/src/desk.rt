@@ -24,7 +24,7 @@ impl fmt::Display for Failed {
 impl Error for Failed {}
 
 /// Why a file was not loaded.
-#[derive(Clone, Copy, Debug, PartialEq, Eq)]
+#[derive(Clone, Copy, Debug)]
 pub enum LoadFault {
     /// There is no such file, or reading it failed.
     Failed,
@@ -113,27 +113,4 @@ pub trait Desk {
     fn say(&mut self, piece: &[u8]) -> Result<(), Failed>
         ensures ok { OnOk result (Says (state self.old) (state self.new) piece.now) }
         ensures err { OnErr result (SaysFront (state self.old) (state self.new) piece.now) };
-}
-
-#[cfg(test)]
-mod tests {
-    use super::*;
-    use std::test::Fail;
-
-    #[test]
-    fn messages(rt: HostRuntime) -> Result<(), Fail> {
-        let rows = [
-            (LoadFault::Failed, "the file could not be read"),
-            (LoadFault::TooLong, "the file is too long"),
-            (LoadFault::NoMemory, "out of memory"),
-        ];
-        for (fault, message) in rows {
-            assert_eq!(rt; format!(in rt.alloc(); "{fault}")?.as_str(), message);
-        }
-        assert_eq!(rt;
-            format!(in rt.alloc(); "{Failed}")?.as_str(),
-            "the desk failed"
-        );
-        Ok(())
-    }
 }

@@ -3,6 +3,7 @@
 #![tactic(auto)]
 
 mod desk;
+pub mod faults;
 mod gate;
 pub mod laws;
 mod memory;

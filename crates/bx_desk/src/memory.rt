@@ -21,9 +21,9 @@ pub struct MemDesk {
     said: Space,
     fails: Vec<(u64, u64)>,
     calls: u64,
-    load_faults: u64,
-    write_faults: u64,
-    say_faults: u64,
+    pub(crate) load_faults: u64,
+    pub(crate) write_faults: u64,
+    pub(crate) say_faults: u64,
 }
 
 impl MemDesk {
@@ -322,133 +322,5 @@ fn copy_within(file: &[u8], limit: u64, into: &mut Vec<u8>) -> Result<(), LoadFa
         Ok(())
     } else {
         Err(LoadFault::TooLong)
-    }
-}
-
-#[cfg(test)]
-mod tests {
-    use super::*;
-    use std::test::Fail;
-
-    // A desk with the file "a" of five bytes and an empty file.
-    fn filled(alloc: Global) -> Result<MemDesk, NoMemory> {
-        let mut desk = MemDesk::new(alloc);
-        desk.put("a", b"abcde")?;
-        desk.put("empty", b"")?;
-        Ok(desk)
-    }
-
-    // Each row is one call, numbered from 1, and the third is to fail.
-    #[test]
-    fn loads(rt: HostRuntime) -> Result<(), Fail> {
-        let mut desk = filled(rt.alloc())?;
-        desk.fail_at(3, 2)?;
-        let rows = [
-            ("within its limit", "a", u64::MAX, Ok(()), "abcde"),
-            ("at its limit", "a", 5, Ok(()), "abcde"),
-            ("planned to fail", "a", 9, Err(LoadFault::Failed), ""),
-            (
-                "one past its limit",
-                "a",
-                4,
-                Err(LoadFault::TooLong),
-                "abcde",
-            ),
-            ("far past its limit", "a", 1, Err(LoadFault::TooLong), "ab"),
-            ("not there", "b", 9, Err(LoadFault::Failed), ""),
-            ("empty", "empty", 0, Ok(()), ""),
-        ];
-        for (case, name, limit, answer, left) in rows {
-            let mut into = Vec::new(rt.alloc());
-            assert_eq!(rt; desk.load(name, limit, &mut into), answer, "{case}");
-            assert_eq!(rt; into.as_slice(), left.as_bytes(), "{case}");
-        }
-        assert_eq!(rt; desk.file("a"), Some(b"abcde".as_slice()));
-        assert_eq!(rt; desk.file("b"), None);
-        Ok(())
-    }
-
-    // The load before it is call 1, so the say of each row is call 2.
-    #[test]
-    fn says(rt: HostRuntime) -> Result<(), Fail> {
-        let rows = [
-            ("room for all", 3, None, Ok(()), "abc"),
-            ("room lacking", 2, None, Err(Failed), ""),
-            ("kept below the length", 9, Some(1), Err(Failed), "a"),
-            ("kept at the length", 9, Some(3), Err(Failed), "abc"),
-            ("kept above the length", 9, Some(4), Err(Failed), "abc"),
-            ("kept above the room", 2, Some(3), Err(Failed), "ab"),
-        ];
-        for (case, room, kept, answer, said) in rows {
-            let mut desk = filled(rt.alloc())?;
-            desk.say_room(room)?;
-            if let Some(kept) = kept {
-                desk.fail_at(2, kept)?;
-                desk.fail_at(2, 0)?;
-            }
-            desk.load("a", 9, &mut Vec::new(rt.alloc()))?;
-            assert_eq!(rt; desk.say(b"abc"), answer, "{case}");
-            assert_eq!(rt; desk.said(), said.as_bytes(), "{case}");
-        }
-        Ok(())
-    }
-
-    // A row is a step, and then its answer, the file "c", and whether a file is started.
-    #[derive(Clone, Copy)]
-    enum Step {
-        Room(u64),
-        Start(&'static str),
-        Append(&'static [u8]),
-    }
-
-    use Step::{Append, Room, Start};
-
-    // A place of 4 bytes for "c". Call 4 is to keep one byte, call 7 none. What makes room is no call.
-    const STEPS: [(&str, Step, bool, Option<&str>, bool); 12] = [
-        ("started", Start("c"), true, Some(""), true),
-        ("written", Append(b"ab"), true, Some("ab"), true),
-        ("room lacking", Append(b"abc"), false, Some("ab"), true),
-        (
-            "planned to keep one",
-            Append(b"cd"),
-            false,
-            Some("abc"),
-            true,
-        ),
-        ("written to its end", Append(b"d"), true, Some("abcd"), true),
-        ("no place", Start("d"), false, Some("abcd"), false),
-        ("a place is no file", Room(3), true, Some("abcd"), false),
-        ("planned to fail", Start("c"), false, Some("abcd"), false),
-        ("started again", Start("c"), true, Some(""), true),
-        ("written again", Append(b"xyz"), true, Some("xyz"), true),
-        ("nothing fits", Append(b""), true, Some("xyz"), true),
-        ("place used up", Start("c"), false, Some("xyz"), false),
-    ];
-
-    #[test]
-    fn writes(rt: HostRuntime) -> Result<(), Fail> {
-        let mut desk = filled(rt.alloc())?;
-        desk.make_room("c", 9)?;
-        desk.make_room("c", 4)?;
-        desk.fail_at(4, 1)?;
-        desk.fail_at(7, 1)?;
-        assert_eq!(rt; desk.file("c"), None);
-        for (case, step, answer, file, has_started) in STEPS {
-            let result = match step {
-                Room(bytes) => desk.make_room("c", bytes).map_err(|_| Failed),
-                Start(name) => desk.start(name),
-                Append(piece) => {
-                    assert!(rt; desk.has_started(), "{case}");
-                    desk.append(piece)
-                }
-            };
-            assert_eq!(rt; result.is_ok(), answer, "{case}");
-            assert_eq!(rt; desk.file("c"), file.map(|file| file.as_bytes()), "{case}");
-            assert_eq!(rt; desk.has_started(), has_started, "{case}");
-        }
-        assert_eq!(rt; desk.file("d"), None);
-        assert_eq!(rt; desk.file("a"), Some(b"abcde".as_slice()));
-        assert_eq!(rt; desk.write_faults, 5);
-        Ok(())
     }
 }

@@ -128,6 +128,3 @@ fn hand_on<D: Desk>(target: Target, bytes: &[u8], desk: &mut D) -> Result<(), Fa
         Target::File => desk.append(bytes),
     }
 }
-
-#[cfg(test)]
-mod tests;

@@ -19,9 +19,9 @@ const CHUNK: usize = 16384;
 pub struct StdDesk<'a, R: Files> {
     rt: &'a R,
     started: Option<R::File>,
-    load_faults: u64,
-    write_faults: u64,
-    say_faults: u64,
+    pub(crate) load_faults: u64,
+    pub(crate) write_faults: u64,
+    pub(crate) say_faults: u64,
 }
 
 impl<'a, R: Files + Print> StdDesk<'a, R> {
@@ -138,122 +138,4 @@ fn write_whole<W: Write>(out: &mut W, bytes: &[u8]) -> Result<(), Failed>
         }
     }
     Ok(())
-}
-
-#[cfg(test)]
-mod tests {
-    use super::*;
-    use std::test::Fail;
-    use std::{env, process};
-
-    #[test]
-    fn loads(rt: HostRuntime) -> Result<(), Fail> {
-        let alloc = rt.alloc();
-        let bytes = vec![in alloc; b'x'; 3 * CHUNK]?;
-        let folder = env::temp_dir(&rt)?.into_string();
-        let file = format!(in alloc; "{folder}/bx_desk_{}", process::id(rt.process()))?;
-        let missing = format!(in alloc; "{file}_missing")?;
-        let size = bytes.len() as u64;
-        let rows = [
-            ("at its limit", file.as_str(), size, Ok(()), bytes.len(), 0),
-            (
-                "past its limit",
-                file.as_str(),
-                3,
-                Err(LoadFault::TooLong),
-                4,
-                0,
-            ),
-            (
-                "missing",
-                missing.as_str(),
-                size,
-                Err(LoadFault::Failed),
-                0,
-                1,
-            ),
-            (
-                "a folder",
-                folder.as_str(),
-                size,
-                Err(LoadFault::Failed),
-                0,
-                2,
-            ),
-        ];
-        let mut desk = StdDesk::new(&rt);
-        for (case, name, limit, answer, len, faults) in rows {
-            let mut into = Vec::new(alloc);
-            fs::write(&rt, file.as_str(), bytes.as_slice())?;
-            let result = desk.load(name, limit, &mut into);
-            fs::remove_file(&rt, file.as_str())?;
-            assert_eq!(rt; result, answer, "{case}");
-            assert_eq!(rt; into.len(), len, "{case}");
-            assert!(rt; bytes.starts_with(&into), "{case}");
-            assert_eq!(rt;
-                (desk.load_faults, desk.write_faults, desk.say_faults),
-                (faults, 0, 0),
-                "{case}"
-            );
-        }
-        Ok(())
-    }
-
-    #[test]
-    fn says(rt: HostRuntime) {
-        let mut desk = StdDesk::new(&rt);
-        assert_eq!(rt; desk.say(b"said by a test\n"), Ok(()));
-        assert_eq!(rt;
-            (desk.load_faults, desk.write_faults, desk.say_faults),
-            (0, 0, 0)
-        );
-    }
-
-    #[test]
-    fn writes(rt: HostRuntime) -> Result<(), Fail> {
-        let alloc = rt.alloc();
-        let temporary = env::temp_dir(&rt)?.into_string();
-        let folder = format!(in alloc; "{temporary}/bx_desk_{}_files", process::id(rt.process()))?;
-        let file = format!(in alloc; "{folder}/written")?;
-        let long = vec![in alloc; b'x'; 3 * CHUNK]?;
-        fs::create_dir(&rt, folder.as_str())?;
-
-        let mut desk = StdDesk::new(&rt);
-        assert!(rt; !desk.has_started());
-        assert_eq!(rt; desk.start(file.as_str()), Ok(()));
-        assert_eq!(rt; fs::read(&rt, file.as_str())?.len(), 0);
-        for piece in [b"one".as_slice(), b"", b", two".as_slice(), long.as_slice()] {
-            assert!(rt; desk.has_started());
-            assert_eq!(rt; desk.append(piece), Ok(()));
-        }
-        let written = fs::read(&rt, file.as_str())?;
-        assert!(rt; written.starts_with(b"one, two".as_slice()));
-        assert!(rt; written.ends_with(long.as_slice()));
-        assert_eq!(rt; written.len(), 8 + long.len());
-
-        // Started again, it is emptied and written from its beginning.
-        assert_eq!(rt; desk.start(file.as_str()), Ok(()));
-        assert!(rt; desk.has_started());
-        assert_eq!(rt; desk.append(b"new"), Ok(()));
-        assert_eq!(rt; fs::read(&rt, file.as_str())?.as_slice(), b"new".as_slice());
-        assert_eq!(rt; desk.write_faults, 0);
-
-        // A folder in the place of a file: no file is started, and the one before stays as it is.
-        assert_eq!(rt; desk.start(folder.as_str()), Err(Failed));
-        assert!(rt; !desk.has_started());
-        assert_eq!(rt; fs::read(&rt, file.as_str())?.as_slice(), b"new".as_slice());
-        assert_eq!(rt; desk.write_faults, 1);
-
-        if fs::exists(&rt, "/dev/full")? {
-            assert_eq!(rt; desk.start("/dev/full"), Ok(()));
-            assert!(rt; desk.has_started());
-            assert_eq!(rt; desk.append(b"lost"), Err(Failed));
-            assert!(rt; desk.has_started());
-            assert_eq!(rt; desk.write_faults, 2);
-        }
-        assert_eq!(rt; (desk.load_faults, desk.say_faults), (0, 0));
-        fs::remove_file(&rt, file.as_str())?;
-        fs::remove_dir(&rt, folder.as_str())?;
-        Ok(())
-    }
 }

@@ -8,7 +8,7 @@ use bx_logic::NoMemory;
 use std::alloc::{AllocError, AllocFailed};
 
 /// Why a set of dots is cut into no form grid. `NoMemory` is no fault of the dots, and may come at any time.
-#[derive(Clone, Copy, Debug, PartialEq, Eq)]
+#[derive(Clone, Copy)]
 pub enum CutFault {
     /// The dot lies in no tile, the first such.
     StrayDot(Dot),

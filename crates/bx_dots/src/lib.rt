@@ -14,6 +14,3 @@ mod tile;
 pub use cuts::cut;
 pub use dots::dots_of;
 pub use fault::CutFault;
-
-#[cfg(test)]
-mod tests;

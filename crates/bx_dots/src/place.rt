@@ -10,7 +10,7 @@ use bx_library::{Dot, Library};
 
 /// The first dimer of each row of a tile, and the first row of dimers: where a dot of its form at 0 and 0
 /// stands.
-#[derive(Clone, Copy, Debug)]
+#[derive(Clone, Copy)]
 pub(crate) struct Origin {
     pub(crate) n: u32,
     pub(crate) m: u32,

@@ -27,8 +27,3 @@ pub use formula::encode;
 pub use numbers::{MOST_AREA, MOST_NODES, number};
 pub use rule::Rule;
 pub use variable::Variable;
-
-#[cfg(test)]
-mod networks;
-#[cfg(test)]
-mod tests;

@@ -1,7 +1,7 @@
 //! The rules by which an edge goes through a tile. What each of them says is in the definitions.
 
 /// A rule that holds of each edge on each tile.
-#[derive(Clone, Copy, Debug, PartialEq, Eq)]
+#[derive(Clone, Copy)]
 pub enum Rule {
     /// What leaves a tile begins there, or enters it.
     ComesFromAbove,

@@ -1,7 +1,7 @@
 //! The variables of a formula. Each says something of a layout.
 
 /// What a variable says.
-#[derive(Clone, Copy, Debug, PartialEq, Eq)]
+#[derive(Clone, Copy)]
 pub enum Variable {
     /// This node stands on this tile.
     NodeOn(u32, u32),

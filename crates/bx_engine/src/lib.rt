@@ -13,6 +13,3 @@ mod status;
 pub use bx_words::{Opt, WordFault};
 pub use engine::run;
 pub use status::{InputFault, Status, Which};
-
-#[cfg(test)]
-mod tests;

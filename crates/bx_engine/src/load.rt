@@ -17,14 +17,14 @@ use bx_verilog::{NetFault, ReadFault, read_module, to_net};
 use std::alloc::Global;
 
 /// A module's net, and the network that it is mapped to.
-#[derive(Debug, Drop)]
+#[derive(Drop)]
 pub(crate) struct Module {
     pub net: Net,
     pub mapped: MappedNet,
 }
 
 /// Why there is no network of a file. Nothing was said yet.
-#[derive(Debug, Drop)]
+#[derive(Drop)]
 pub(crate) enum NoModule {
     /// The file was read and is refused.
     Fault(InputFault),

@@ -9,7 +9,7 @@ use bx_verilog::{NetFault, ReadFault};
 use bx_words::WordFault;
 
 /// How a run ended.
-#[derive(Debug, Drop)]
+#[derive(Drop)]
 pub enum Status {
     /// A layout was found, of this ratio. The certificate was written, and the report said.
     Found(Ratio),
@@ -32,7 +32,7 @@ pub enum Status {
 
 /// What is wrong with an input. A text is read in this order, and the first that is wrong is answered.
 /// Want of memory is no fault of an input, so no fault of a lower reader that stands here is that.
-#[derive(Debug, Drop)]
+#[derive(Drop)]
 pub enum InputFault {
     /// The file is longer than is read.
     TooLong(Which),
@@ -49,7 +49,7 @@ pub enum InputFault {
 }
 
 /// A file or output that a fault is about.
-#[derive(Clone, Copy, Debug, PartialEq, Eq)]
+#[derive(Clone, Copy)]
 pub enum Which {
     /// The file of the module, which the words name.
     NetFile,

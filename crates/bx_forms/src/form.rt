@@ -10,7 +10,7 @@ use crate::{Kind, Side, Sides};
 use std::marker::Model;
 
 /// One of the forms of a tile. Contracts see it as its number, of which the table has a line.
-#[derive(Clone, Copy, Debug, PartialEq, Eq)]
+#[derive(Clone, Copy)]
 pub struct Form {
     number: u8,
 }

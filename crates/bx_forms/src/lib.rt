@@ -15,6 +15,3 @@ pub use form::Form;
 pub use kind::Kind;
 pub use set::FormSet;
 pub use side::{Side, Sides};
-
-#[cfg(test)]
-mod tests;

@@ -8,7 +8,7 @@ use crate::table::COUNT;
 use std::marker::Model;
 
 /// A set of forms. Contracts see it as the list that says of each form in turn whether it is in it.
-#[derive(Clone, Copy, Debug, PartialEq, Eq)]
+#[derive(Clone, Copy)]
 pub struct FormSet {
     has: [bool; COUNT as usize],
 }

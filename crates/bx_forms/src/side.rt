@@ -2,14 +2,14 @@
 //! right, above or below; which tile stands there is for the grids to say.
 
 /// A side of a tile, upper or lower.
-#[derive(Clone, Copy, Debug, PartialEq, Eq)]
+#[derive(Clone, Copy)]
 pub enum Side {
     Left,
     Right,
 }
 
 /// Which of two sides are used, the upper ones of a tile or the lower ones.
-#[derive(Clone, Copy, Debug, PartialEq, Eq)]
+#[derive(Clone, Copy, PartialEq, Eq)]
 pub struct Sides {
     pub left: bool,
     pub right: bool,

@@ -10,7 +10,7 @@ use crate::{Kind, Side, Sides};
 
 // What a form gives for the values that it reads, from left to right. It goes out on each lower side
 // that is used.
-#[derive(Clone, Copy, Debug, PartialEq, Eq)]
+#[derive(Clone, Copy)]
 pub enum Function {
     // The value that is given from outside.
     Given,
@@ -31,7 +31,7 @@ pub enum Function {
 }
 
 // What the table says of a form beside its name.
-#[derive(Clone, Copy, Debug, PartialEq, Eq)]
+#[derive(Clone, Copy)]
 pub struct Shape {
     pub upper: Sides,
     pub lower: Sides,
@@ -133,8 +133,9 @@ macro_rules! shape {
 pub const COUNT: u8 = 28;
 
 // The forms, each at its number. In a name the letters are first the upper side, then the lower one,
-// as far as the form has a choice there.
-pub const FORMS: [(&str, Shape); COUNT as usize] = [
+// as far as the form has a choice there. A line is read where it stands: the table is no constant, of which
+// each use would be a copy.
+pub static FORMS: [(&str, Shape); COUNT as usize] = [
     ("input_l", shape!(NEITHER, LEFT, Some(Kind::Input), Given)),
     ("input_r", shape!(NEITHER, RIGHT, Some(Kind::Input), Given)),
     ("output_l", shape!(LEFT, NEITHER, Some(Kind::Output), Read)),

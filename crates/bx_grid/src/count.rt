@@ -2,7 +2,7 @@
 //! inequality is, and that it leaves no layout, is for the counting itself to say.
 
 /// Which inequality refutes a ratio. Nodes and rows are numbered from 0.
-#[derive(Clone, Copy, Debug, PartialEq, Eq)]
+#[derive(Clone, Copy)]
 pub enum CountProof {
     /// The longest path through this node has more nodes than there are rows.
     Late { node: u32 },

@@ -14,6 +14,3 @@ pub use count::CountProof;
 pub use ratio::{Limits, MOST_LIMIT, MOST_TILES, Ratio};
 pub use ratios::Ratios;
 pub use tiles::{below, border, entering};
-
-#[cfg(test)]
-mod tests;

@@ -9,7 +9,7 @@ pub const MOST_LIMIT: u32 = 144;
 
 /// The sides of a grid: so many tiles in a row, and so many rows. Both are at least 1 wherever a call
 /// takes a ratio, and their product is at most [`MOST_TILES`].
-#[derive(Clone, Copy, Debug, PartialEq, Eq)]
+#[derive(Clone, Copy)]
 pub struct Ratio {
     /// Tiles in a row.
     pub w: u32,
@@ -18,7 +18,7 @@ pub struct Ratio {
 }
 
 /// The largest ratios that are tried. Each limit is from 1 to [`MOST_LIMIT`].
-#[derive(Clone, Copy, Debug, PartialEq, Eq)]
+#[derive(Clone, Copy, Debug)]
 pub struct Limits {
     /// Tiles in all.
     pub area: u32,

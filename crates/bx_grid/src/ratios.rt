@@ -9,7 +9,7 @@ use std::marker::Model;
 
 /// Every ratio within given limits, each once, by area and then by width. Contracts see it as this
 /// list.
-#[derive(Debug, Drop)]
+#[derive(Drop)]
 pub struct Ratios {
     limits: Limits,
 }

@@ -9,7 +9,6 @@ pub mod PinLists
 pub mod Sending
 pub mod Soundness
 pub mod Spread
-pub mod Straight
 pub mod Valuations
 pub mod Verdicts
 pub mod Walks

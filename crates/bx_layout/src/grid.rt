@@ -10,7 +10,7 @@ use std::marker::Model;
 
 /// A grid with a form, or nothing, on each tile. Contracts see it as the record of its ratio and the
 /// list of its tiles, row by row.
-#[derive(Debug, Drop)]
+#[derive(Drop)]
 pub struct FormGrid {
     ratio: Ratio,
     tiles: Vec<Option<Form>>,

@@ -6,7 +6,7 @@ use bx_grid::Ratio;
 use std::marker::Model;
 
 /// The tile of each node of a network, by the node's number. Contracts see it as this list.
-#[derive(Debug, Drop)]
+#[derive(Drop)]
 pub struct Places {
     tiles: Vec<u32>,
 }
@@ -44,7 +44,7 @@ impl Places {
 }
 
 /// The edge on each border of a grid, or none, by the border's number. Contracts see it as this list.
-#[derive(Debug, Drop)]
+#[derive(Drop)]
 pub struct Borders {
     edges: Vec<Option<u32>>,
 }
@@ -82,7 +82,7 @@ impl Borders {
 }
 
 /// Where the nodes of a network stand on a grid, and which edge each border carries.
-#[derive(Debug, Drop)]
+#[derive(Drop)]
 pub struct Layout {
     /// The sides of the grid.
     pub ratio: Ratio,

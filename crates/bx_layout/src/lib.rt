@@ -22,6 +22,3 @@ pub use layout::{Borders, Layout, Places};
 pub use legal::is_legal;
 pub use permit::Permit;
 pub use sound::is_sound;
-
-#[cfg(test)]
-mod tests;

@@ -10,7 +10,7 @@ use std::marker::Model;
 
 /// Says of each tile of a grid of any ratio which forms may stand there. Contracts see it as the list that
 /// says of each form in turn whether it may.
-#[derive(Clone, Copy, Debug)]
+#[derive(Clone, Copy)]
 pub struct Permit {
     forms: FormSet,
 }

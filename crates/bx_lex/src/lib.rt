@@ -38,6 +38,3 @@ mod tokens;
 pub use read::read_tokens;
 pub use token::{LexFault, Token, TokenKind};
 pub use tokens::Tokens;
-
-#[cfg(test)]
-mod tests;

@@ -3,7 +3,7 @@
 use thiserror::Error;
 
 /// The kind of a token.
-#[derive(Clone, Copy, Debug, PartialEq, Eq)]
+#[derive(Clone, Copy)]
 pub enum TokenKind {
     /// A letter or `_`, and letters, digits, `_` and `$`.
     Word,
@@ -16,7 +16,7 @@ pub enum TokenKind {
 }
 
 /// A token: the bytes of the text from `start` up to `end`, and their kind.
-#[derive(Clone, Copy, Debug, PartialEq, Eq)]
+#[derive(Clone, Copy)]
 pub struct Token {
     /// The place of its first byte.
     pub start: u64,
@@ -27,7 +27,7 @@ pub struct Token {
 }
 
 /// Why a text has no tokens: its first fault, with the place.
-#[derive(Clone, Copy, Debug, PartialEq, Eq, Error)]
+#[derive(Clone, Copy, Debug, Error)]
 pub enum LexFault {
     /// No token begins with the byte at this place.
     #[error("no token begins at byte {0}")]

@@ -6,7 +6,7 @@ use crate::token::Token;
 use std::marker::Model;
 
 /// The tokens of a text, in order. Contracts see the list of them and the length of the text.
-#[derive(Debug, Drop)]
+#[derive(Drop)]
 pub struct Tokens {
     tokens: Vec<Token>,
     end: u64,

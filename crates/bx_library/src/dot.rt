@@ -5,7 +5,7 @@ ghost use Rattle.bx_library.specs.Dots.{IsBefore};
 
 /// A dot: in row `m` of dimers, the dimer `n` of that row, and of its two atoms the upper one, `l` of 0, or
 /// the lower one, `l` of 1. Dots are ordered as their fields stand here: by `m`, then `l`, then `n`.
-#[derive(Clone, Copy, Debug, PartialEq, Eq, PartialOrd, Ord)]
+#[derive(Clone, Copy, PartialEq, Eq, PartialOrd, Ord)]
 pub struct Dot {
     pub m: u32,
     pub l: u8,

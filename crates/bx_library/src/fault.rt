@@ -8,7 +8,7 @@ use bx_logic::{Name as FormName, NoMemory};
 use std::alloc::{AllocError, AllocFailed};
 
 /// A field of the format.
-#[derive(Clone, Copy, Debug, PartialEq, Eq)]
+#[derive(Clone, Copy)]
 pub enum Field {
     /// `name`, a text.
     Name,
@@ -24,7 +24,7 @@ pub enum Field {
 
 /// Why bytes are no library. The faults of the bytes come in this order, and those of a form before those
 /// of the forms behind it. `NoMemory` is no fault of the bytes, and may come at any time.
-#[derive(Debug, Drop)]
+#[derive(Drop)]
 pub enum LibraryFault {
     /// The bytes are no JSON.
     NotJson,

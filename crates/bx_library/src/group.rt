@@ -7,7 +7,7 @@ ghost use Rattle.bx_library.specs.Groups.{group_of};
 use bx_forms::{Form, Kind};
 
 /// A group of forms, in which each is known by its dots.
-#[derive(Clone, Copy, Debug, PartialEq, Eq)]
+#[derive(Clone, Copy, PartialEq, Eq)]
 pub enum Group {
     /// The forms of inputs.
     Inputs,

@@ -22,6 +22,3 @@ pub use fault::{Field, LibraryFault};
 pub use group::Group;
 pub use library::Library;
 pub use read::read_library;
-
-#[cfg(test)]
-mod tests;

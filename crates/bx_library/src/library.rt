@@ -12,7 +12,7 @@ use bx_forms::{Form, FormSet};
 use std::marker::Model;
 
 /// The size of a tile, and the dots of each form that is offered. Contracts see it as `Tiles`.
-#[derive(Debug, Drop)]
+#[derive(Drop)]
 pub struct Library {
     width: u32,
     height: u32,

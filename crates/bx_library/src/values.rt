@@ -11,7 +11,7 @@ use serde_json::Value;
 use std::alloc::Global;
 
 /// Three numbers, as a dot is written down: `l` may be any number.
-#[derive(Clone, Copy, Debug)]
+#[derive(Clone, Copy)]
 pub struct Triple {
     pub n: u32,
     pub m: u32,

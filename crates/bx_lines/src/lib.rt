@@ -12,6 +12,3 @@ mod decimal;
 pub mod laws;
 
 pub use decimal::number_at;
-
-#[cfg(test)]
-mod tests;

@@ -2,17 +2,17 @@
 use Rattle.std.proofs.Common.{◌≡◌, ℕ, ◌+◌, ◌<◌, Bool, false, true, List, [], ◌∷◌, ◌++◌, length, map, get_or, set, ap, sym, subst, arith, refl, ◌∙◌, Some}
 use Rattle.std.specs.List.{All, Contains, range_with_len}
 use Rattle.std.proofs.lemmas.List.FromFn.{length-map-range_with_len, get_or-map-range_with_len}
-use Rattle.std.specs.Prelude.{Option, None, unwrap_or, min, ◌≤◌, ◌⊎◌}
+use Rattle.std.specs.Prelude.{IsTrue, Option, None, unwrap_or, min, ◌≤◌, ◌⊎◌}
 use Rattle.std.proofs.Common.{inl, inr, take}
-use Rattle.std.proofs.lemmas.Bool.{cases_lt}
+use Rattle.std.proofs.lemmas.Bool.{cases_Bool, cases_lt}
 use Rattle.std.proofs.lemmas.List.{length-append, length-map, take_more}
 use Rattle.std.proofs.lemmas.List.Elements.{All-from_get_or, All-append, All-cons, All-map, All-pop, Contains-append_left, Contains-push, Contains-push_cases}
 use Rattle.bx_logic.specs.declared.driver.Driver.{Driver}
 use Rattle.bx_logic.specs.declared.components.Step.{Step}
 use Rattle.bx_logic.specs.declared.components.Step.TheVariants.{Enter, Leave}
 use Rattle.bx_logic.specs.Nets.{arguments_of, driver_at}
-use Rattle.bx_logic.specs.Components.{net_of, place_of, AreSteps, IsLowestPlace}
-use Rattle.bx_logic.proofs.Cycles.{unseen_cost, unseen_cost-falls, read-at}
+use Rattle.bx_logic.specs.Components.{net_of, place_of, was_seen, AreSteps, IsLowestPlace}
+use Rattle.bx_logic.proofs.Cycles.{unseen_cost, unseen_cost-falls}
 
 pub steps-entered : (nets : ℕ) (rest after : List Step) (n : ℕ) (args : List ℕ) → after ≡ rest ++ (Leave n ∷ map Enter args) → n < nets →
     All (λ m. m < nets) args → AreSteps nets rest → AreSteps nets after
@@ -21,14 +21,22 @@ steps-entered nets rest after n args is_after h all steps =
     (All-append (λ (s : Step). net_of s < nets) rest (Leave n ∷ map Enter args) steps
     (All-cons (λ (s : Step). net_of s < nets) (Leave n) (map Enter args) h (All-map (λ (s : Step). net_of s < nets) Enter args all)))
 
-pub steps-less : (drivers : List Driver) (seen : List Bool) (steps rest after : List Step) (s : Step) (n : ℕ) (args : List ℕ) (b : Bool) →
-    steps ≡ rest ++ s ∷ [] → after ≡ rest ++ (Leave n ∷ map Enter args) → args ≡ arguments_of (driver_at drivers n) →
-    n < length seen → n < length drivers → b ≡ get_or seen n b → b ≡ false →
-    length after + unseen_cost (λ t. t) (set seen n true) drivers < length steps + unseen_cost (λ t. t) seen drivers
-steps-less drivers seen steps rest after s n args b is_steps is_after is_args l h is_b f =
-    let less = unseen_cost-falls (λ t. t) seen drivers n true false l h (read-at seen n b l is_b ∙ f) refl in
-    let same = ap length is_args in
-    rw (is_steps, is_after, length-append, length-append, length-map) (omega (arith, less, same))
+-- entering a net leaves less to do: it is new, or a step less is left
+pub steps-less : (drivers : List Driver) (seen seen' : List Bool) (steps rest after : List Step) (s : Step) (n : ℕ) (args : List ℕ) →
+    steps ≡ rest ++ s ∷ [] → args ≡ arguments_of (driver_at drivers n) → n < length seen → n < length drivers →
+    (IsTrue (was_seen seen n) → (seen' ≡ seen) × (after ≡ rest)) → (was_seen seen n ≡ false → seen' ≡ set seen n true) →
+    (was_seen seen n ≡ false → after ≡ rest ++ (Leave n ∷ map Enter args)) →
+    length after + unseen_cost (λ t. t) seen' drivers < length steps + unseen_cost (λ t. t) seen drivers
+steps-less drivers seen seen' steps rest after s n args is_steps is_args l h again seen_is after_is =
+    elim (cases_Bool (was_seen seen n)) [
+      | inl t ↦
+          let kept = again t in
+          rw (is_steps, kept.0, kept.1, length-append) (omega arith)
+      | inr f ↦
+          let less = unseen_cost-falls (λ t. t) seen drivers n true false l h f refl in
+          let same = ap length is_args in
+          rw (is_steps, seen_is f, after_is f, length-append, length-append, length-map) (omega (arith, less, same))
+    ]
 
 -- the last step is of a net too
 pub steps-popped : (nets : ℕ) (steps rest : List Step) (s : Step) → steps ≡ rest ++ s ∷ [] → AreSteps nets steps → AreSteps nets rest × (net_of s < nets)

@@ -1,8 +1,9 @@
 -- The search for components: which nets its parts may name.
-use Rattle.std.specs.Prelude.{◌≡◌, ℕ, ◌<◌, ◌≤◌, ◌⊎◌, List, Option, Some, None, length, slice_index_or, All, Contains}
+use Rattle.std.specs.Prelude.{◌≡◌, ℕ, ◌<◌, ◌≤◌, ◌⊎◌, Bool, false, List, Option, Some, None, length, slice_index_or, All, Contains}
 use Rattle.bx_logic.specs.declared.components.Step.{Step}
 use Rattle.bx_logic.specs.declared.components.Step.TheVariants.{Enter, Leave}
 use Rattle.bx_logic.specs.declared.components.Components.{Components}
+use Rattle.bx_logic.specs.declared.components.Search.{Search}
 
 abbrev pub net_of : Step → ℕ
 net_of (Enter n) = n
@@ -17,6 +18,16 @@ pub record AreComponents (nets : ℕ) (components : Components) : Type 0 where
   pub places : length components.places.items ≡ nets
   pub ranks : length components.ranks.items ≡ nets
   pub open_nets : All (λ n. n < nets) components.open_nets.items
+
+-- of each net it is known whether it was entered, and the parts are of so many nets
+pub record IsSearch (nets : ℕ) (search : Search) : Type 0 where
+  pub components : AreComponents nets search.components
+  pub seen : length search.seen.items ≡ nets
+  pub steps : AreSteps nets search.steps.items
+
+-- whether a net was entered
+abbrev pub was_seen : List Bool → ℕ → Bool
+was_seen seen n = slice_index_or seen n false
 
 abbrev pub place_of : List (Option ℕ) → ℕ → Option ℕ
 place_of places n = slice_index_or places n None

@@ -6,7 +6,7 @@ use std::marker::Model;
 
 /// The numbers of the nets that a gate reads, of which there is at least one. Contracts see it as the
 /// list of them.
-#[derive(Debug, Drop)]
+#[derive(Drop)]
 pub struct Args {
     nets: Vec<u32>,
 }

@@ -4,39 +4,73 @@
 //! still to be entered and left in a list, so that depth costs no more than width. The clauses promise
 //! a rank for each net and no more: who uses the ranks is to check them.
 ghost use Rattle.std.specs.List.{range_with_len};
-ghost use Rattle.std.specs.Prelude.{◌≡◌, ◌<◌, ◌++◌, [], ◌∷◌, slice_set, All, IfOk, OnOk, length, map, vec_len};
+ghost use Rattle.std.specs.Prelude.{◌≡◌, ◌<◌, ◌++◌, [], ◌∷◌, true, false, slice_set, All, IfOk, IsTrue, OnOk, length, map, vec_len};
 ghost use Rattle.bx_logic.specs.declared.components.Step.TheVariants.{Enter, Leave};
 ghost use Rattle.bx_logic.specs.Nets.{arguments_of, driver_at};
 ghost use Rattle.bx_logic.specs.Cycles.{ReadsNetsOnly};
-ghost use Rattle.bx_logic.specs.Components.{AreSteps, AreComponents, IsLowestPlace};
+ghost use Rattle.bx_logic.specs.Components.{IsSearch, was_seen, AreComponents, IsLowestPlace};
 
 use crate::{Driver, NoMemory};
 use std::alloc::Global;
 
 /// A rank for each net. No net reads one of a greater rank, and a net that does not depend on itself
 /// reads only nets of smaller ones; neither is promised by a clause.
-pub(crate) fn component_ranks(alloc: Global, drivers: &[Driver]) -> Result<Vec<u32>, NoMemory>
+pub fn component_ranks(alloc: Global, drivers: &[Driver]) -> Result<Vec<u32>, NoMemory>
     requires few { length drivers.now < 4294967296 }
     requires reads { ReadsNetsOnly drivers.now }
     ensures { IfOk result (λ ranks. vec_len ranks ≡ length drivers.now) }
 {
-    let mut components = Components::new(alloc, drivers.len())?;
-    let mut seen = vec![in alloc; false; drivers.len()]?;
-    let mut steps = all_entries(alloc, drivers.len() as u32)?;
-    while let Some(step) = steps.pop() {
+    let mut search = Search::new(alloc, drivers.len() as u32)?;
+    while let Some(step) = search.steps.pop() {
         match step {
-            Step::Enter(net) => {
-                if seen[net as usize] {
-                    continue;
-                }
-                seen[net as usize] = true;
-                components.enter(net)?;
-                push_visit(&mut steps, net, arguments_at(drivers, net))?;
-            }
-            Step::Leave(net) => components.leave(net, arguments_at(drivers, net)),
+            Step::Enter(net) => search.enter(net, arguments_at(drivers, net))?,
+            Step::Leave(net) => search.components.leave(net, arguments_at(drivers, net)),
         }
     }
-    Ok(components.ranks)
+    Ok(search.components.ranks)
+}
+
+// A search for the components of so many nets: what it knows, the nets that it has entered, and the
+// steps that are still to come, the next one last.
+#[derive(Drop)]
+struct Search {
+    components: Components,
+    seen: Vec<bool>,
+    steps: Vec<Step>,
+}
+
+impl Search {
+    // Each net is still to be entered.
+    fn new(alloc: Global, nets: u32) -> Result<Self, NoMemory>
+        ensures { IfOk result (λ search. IsSearch nets search) }
+    {
+        let components = Components::new(alloc, nets as usize)?;
+        let seen = vec![in alloc; false; nets as usize]?;
+        let steps = all_entries(alloc, nets)?;
+        Ok(Search {
+            components,
+            seen,
+            steps,
+        })
+    }
+
+    // Enters a net that reads these, unless it was entered before.
+    fn enter(&mut self, net: u32, arguments: &[u32]) -> Result<(), NoMemory>
+        requires search { IsSearch (length self.old.seen.items) self.old }
+        requires within { net < length self.old.seen.items }
+        requires arguments { All (λ m. m < length self.old.seen.items) arguments.now }
+        ensures search { OnOk result (IsSearch (length self.old.seen.items) self.new) }
+        ensures again { IsTrue (was_seen self.old.seen.items net) → self.new ≡ self.old }
+        ensures seen { OnOk result (was_seen self.old.seen.items net ≡ false → self.new.seen.items ≡ slice_set self.old.seen.items net true) }
+        ensures steps { OnOk result (was_seen self.old.seen.items net ≡ false → self.new.steps.items ≡ self.old.steps.items ++ (Leave net ∷ map Enter arguments.now)) }
+    {
+        if self.seen[net as usize] {
+            return Ok(());
+        }
+        self.seen[net as usize] = true;
+        self.components.enter(net)?;
+        push_visit(&mut self.steps, net, arguments)
+    }
 }
 
 // A step of the search that is still to come.

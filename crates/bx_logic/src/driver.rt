@@ -5,7 +5,7 @@ ghost use Rattle.bx_logic.specs.Nets.{arguments_of};
 use crate::{Args, Op};
 
 /// What gives a net its value: an input by its number, a constant, or a gate that reads other nets.
-#[derive(Debug, Drop)]
+#[derive(Drop)]
 pub enum Driver {
     Input(u32),
     Constant(bool),

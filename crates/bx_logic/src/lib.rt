@@ -14,6 +14,7 @@ mod memory;
 mod name;
 mod net;
 mod op;
+pub mod ranks;
 
 pub use args::Args;
 pub use cycle::least_net_on_cycle;
@@ -22,6 +23,3 @@ pub use memory::NoMemory;
 pub use name::Name;
 pub use net::Net;
 pub use op::Op;
-
-#[cfg(test)]
-mod tests;

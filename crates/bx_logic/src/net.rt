@@ -9,7 +9,7 @@ use std::marker::Model;
 
 /// A module's nets, with the names of its inputs and outputs. A net is known by its number, its place
 /// in the list of drivers; an input and an output by its place in theirs.
-#[derive(Debug, Drop)]
+#[derive(Drop)]
 pub struct Net {
     name: Name,
     inputs: Vec<Name>,

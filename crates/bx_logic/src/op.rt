@@ -3,7 +3,7 @@
 
 /// An operation of a gate primitive. `And`, `Or` and `Xor` are n-ary, `Nand`, `Nor` and `Xnor`
 /// their negations; `Buf` and `Not` have one argument.
-#[derive(Clone, Copy, Debug, PartialEq, Eq)]
+#[derive(Clone, Copy, Debug)]
 pub enum Op {
     Buf,
     Not,

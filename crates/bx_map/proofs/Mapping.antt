@@ -59,15 +59,16 @@ mapped-is_network net h none few =
 pub kept-is_cell_net : (net : Netlist) (cells : CellNet) → IsNet net → first_constant net ≡ None → cells ≡ dropped (all_cells net) → IsCellNet cells
 kept-is_cell_net net cells h none e = subst IsCellNet (sym e) (dropped-is_cell_net (all_cells net) (all_cells-are net h none))
 
--- the nodes and edges that the code makes are those of the mapped network
-pub mapped-from : (net : Netlist) (cells fan_outs : CellNet) (nodes : List Node) (edges : List Edge) → cells ≡ dropped (all_cells net) → fan_outs ≡ cells → nodes ≡ (numbered fan_outs).nodes → edges ≡ (numbered fan_outs).edges →
-    record { nodes = nodes; edges = edges } ≡ mapped net
-mapped-from net cells fan_outs nodes edges e f g h =
-    let made : record { nodes = nodes; edges = edges } ≡ numbered fan_outs = ap₂ (λ (ns : List Node) (es : List Edge). record { nodes = ns; edges = es }) g h in
-    made ∙ ap numbered (f ∙ e)
-
-pub made-is_network : (net : Netlist) (cells fan_outs : CellNet) (nodes : List Node) (edges : List Edge) (count most : ℕ) → IsNet net → first_constant net ≡ None → cells ≡ dropped (all_cells net) → fan_outs ≡ cells → nodes ≡ (numbered fan_outs).nodes → edges ≡ (numbered fan_outs).edges →
-    count ≡ length (numbered cells).nodes → count ≤ most → most ≤ 65536 → IsNetwork (record { nodes = nodes; edges = edges })
-made-is_network net cells fan_outs nodes edges count most is none e f g h c l m =
+-- and its nodes and edges are a network
+pub kept-is_network : (net : Netlist) (cells : CellNet) (count most : ℕ) → IsNet net → first_constant net ≡ None → cells ≡ dropped (all_cells net) →
+    count ≡ length (numbered cells).nodes → count ≤ most → most ≤ 65536 → IsNetwork (numbered cells)
+kept-is_network net cells count most is none e c l m =
     let size = c ∙ ap (λ (n : CellNet). length (numbered n).nodes) e in
-    subst IsNetwork (sym (mapped-from net cells fan_outs nodes edges e f g h)) (mapped-is_network net is none (omega (arith, size)))
+    subst IsNetwork (ap numbered (sym e)) (mapped-is_network net is none (omega (arith, size)))
+
+-- the nodes and edges that the code makes are those of the cells
+pub numbered-from : (cells fan_outs : CellNet) (nodes : List Node) (edges : List Edge) → fan_outs ≡ cells → nodes ≡ (numbered fan_outs).nodes → edges ≡ (numbered fan_outs).edges →
+    record { nodes = nodes; edges = edges } ≡ numbered cells
+numbered-from cells fan_outs nodes edges f g h =
+    let made : record { nodes = nodes; edges = edges } ≡ numbered fan_outs = ap₂ (λ (ns : List Node) (es : List Edge). record { nodes = ns; edges = es }) g h in
+    made ∙ ap numbered f

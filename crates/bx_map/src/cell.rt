@@ -4,7 +4,7 @@
 use bx_forms::Kind;
 
 /// A cell. It is known by its number, its place in a list of cells, and reads cells by theirs.
-#[derive(Clone, Copy, Debug, PartialEq, Eq)]
+#[derive(Clone, Copy)]
 pub enum Cell {
     /// The input with this port.
     Input(u32),
@@ -15,14 +15,14 @@ pub enum Cell {
 }
 
 /// The value of a net: a constant, or the value of the cell with this number.
-#[derive(Clone, Copy, Debug, PartialEq, Eq)]
+#[derive(Clone, Copy)]
 pub enum Value {
     Constant(bool),
     Signal(usize),
 }
 
 /// Where an edge ends: a node by its number, and its operand.
-#[derive(Clone, Copy, Debug, PartialEq, Eq)]
+#[derive(Clone, Copy)]
 pub struct Target {
     pub node: u32,
     pub operand: u8,

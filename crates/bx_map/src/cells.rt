@@ -17,7 +17,7 @@ use std::alloc::{AllocError, AllocFailed, Global};
 use std::marker::Model;
 
 /// Cells, and the cell whose value each output has. Contracts see it as a net in cells.
-#[derive(Debug, Drop)]
+#[derive(Drop)]
 pub struct Cells {
     cells: Vec<Cell>,
     outputs: Vec<usize>,
@@ -55,7 +55,7 @@ impl Cells {
 }
 
 /// Why there are no cells of a net.
-#[derive(Clone, Copy, Debug, PartialEq, Eq)]
+#[derive(Clone, Copy)]
 pub enum NoCells {
     /// This output is the first that folds to a constant.
     Constant(u32),

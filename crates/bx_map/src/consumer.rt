@@ -2,7 +2,7 @@
 //! the definitions to say.
 
 /// What reads a value.
-#[derive(Clone, Copy, Debug, PartialEq, Eq)]
+#[derive(Clone, Copy)]
 pub enum Consumer {
     /// An operand of a cell, both by their numbers.
     Operand(usize, u8),
@@ -11,7 +11,7 @@ pub enum Consumer {
 }
 
 /// The value of a cell is read by a consumer.
-#[derive(Clone, Copy, Debug, PartialEq, Eq)]
+#[derive(Clone, Copy)]
 pub struct Use {
     pub cell: usize,
     pub consumer: Consumer,

@@ -15,7 +15,7 @@ use std::alloc::Global;
 use std::marker::Model;
 
 // A net in cells of which each is read, with few enough nodes for numbers of 32 bits. Contracts see the net.
-#[derive(Debug, Drop)]
+#[derive(Drop)]
 pub struct FanOuts {
     net: Cells,
     // For each cell where its consumers begin, which is the number of its node too: a cell and its fans

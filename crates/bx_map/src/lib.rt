@@ -23,6 +23,3 @@ mod walk;
 
 pub use bx_network::{Edge, MappedNet, Node, is_unused};
 pub use map::{MapFault, map_net};
-
-#[cfg(test)]
-mod tests;

@@ -1,14 +1,16 @@
 //! The mapped network of a net, or the first reason why there is none. What it is stands in the definitions;
 //! that it is a network, and computes what the net does, in the laws.
-ghost use Rattle.std.specs.Prelude.{◌≡◌, ◌≤◌, None, IfOk, IfErr, OnOk, length};
+ghost use Rattle.std.specs.Prelude.{◌≡◌, ◌<◌, ◌≤◌, None, IfOk, IfErr, OnOk, length};
 ghost use Rattle.bx_logic.specs.Behaviours.{SameBehaviour, net_behaviour};
 ghost use Rattle.bx_network.specs.Networks.{IsNetwork};
 ghost use Rattle.bx_network.specs.Values.{network_behaviour};
+ghost use Rattle.bx_map.specs.FanOuts.{IsCellNet};
 ghost use Rattle.bx_map.specs.Maps.{first_constant, mapped, node_count};
+ghost use Rattle.bx_map.specs.Numbers.{numbered};
 ghost use Rattle.bx_map.specs.Faults.{IsMapFault};
 ghost use Rattle.bx_map.specs.declared.map.MapFault.TheVariants.{NoMemory as OutOfMemory};
 
-use crate::cells::{NoCells, cells_of};
+use crate::cells::{Cells, NoCells, cells_of};
 use crate::edges::edges_of;
 use crate::fan_outs::FanOuts;
 use crate::nodes::{count_nodes, nodes_of};
@@ -17,7 +19,7 @@ use bx_network::MappedNet;
 use std::alloc::Global;
 
 /// Why a net is not mapped, in the order in which the faults come.
-#[derive(Clone, Copy, Debug, PartialEq, Eq)]
+#[derive(Clone, Copy, Debug)]
 pub enum MapFault {
     /// The first output, in port order, that folds to a constant.
     ConstantOutput(u32),
@@ -66,8 +68,18 @@ pub fn map_net(alloc: Global, net: &Net, most: u32) -> Result<MappedNet, MapFaul
     if count > u64::from(most) {
         return Err(MapFault::TooManyNodes(count));
     }
+    Ok(network_of(alloc, cells)?)
+}
+
+// The network of the nodes and edges of these cells.
+fn network_of(alloc: Global, cells: Cells) -> Result<MappedNet, NoMemory>
+    requires cells { IsCellNet cells }
+    requires few { length (numbered cells).nodes < 4294967296 }
+    requires network { IsNetwork (numbered cells) }
+    ensures { IfOk result (λ network. network ≡ numbered cells) }
+{
     let fan_outs = FanOuts::of(alloc, cells)?;
     let nodes = nodes_of(alloc, &fan_outs)?;
     let edges = edges_of(alloc, &fan_outs)?;
-    Ok(MappedNet::new(alloc, nodes, edges)?)
+    MappedNet::new(alloc, nodes, edges)
 }

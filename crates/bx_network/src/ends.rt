@@ -13,7 +13,7 @@ pub const WAYS: usize = 2;
 
 // The number of the edge that leaves node v by slot s at place 2 * v + s of `outs`, and of the one that
 // enters it by operand k at place 2 * v + k of `ins`. Where there is no such edge the number means nothing.
-#[derive(Debug, Drop)]
+#[derive(Drop)]
 pub struct Ends {
     pub outs: Vec<u32>,
     pub ins: Vec<u32>,

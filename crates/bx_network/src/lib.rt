@@ -12,6 +12,3 @@ mod node;
 
 pub use mapped::{MappedNet, is_unused};
 pub use node::{Edge, Node};
-
-#[cfg(test)]
-mod tests;

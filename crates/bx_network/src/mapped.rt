@@ -15,7 +15,7 @@ use std::alloc::Global;
 use std::marker::Model;
 
 /// A mapped network. Contracts see its list of nodes and its list of edges, which are a network.
-#[derive(Debug, Drop)]
+#[derive(Drop)]
 pub struct MappedNet {
     nodes: Vec<Node>,
     edges: Vec<Edge>,

@@ -4,7 +4,7 @@
 use bx_forms::Kind;
 
 /// A node: what it does, and the port that it stands for.
-#[derive(Clone, Copy, Debug, PartialEq, Eq)]
+#[derive(Clone, Copy)]
 pub struct Node {
     pub kind: Kind,
     /// The number of the input or the output, and 0 at other kinds.
@@ -12,7 +12,7 @@ pub struct Node {
 }
 
 /// An edge from a slot of one node to an operand of another.
-#[derive(Clone, Copy, Debug, PartialEq, Eq)]
+#[derive(Clone, Copy)]
 pub struct Edge {
     pub source: u32,
     pub slot: u8,

@@ -4,7 +4,7 @@ use bx_logic::NoMemory;
 use thiserror::Error;
 
 /// Why no steps were read.
-#[derive(Clone, Copy, Debug, PartialEq, Eq, Error)]
+#[derive(Clone, Copy, Debug, Error)]
 pub enum StepFault {
     /// The first bad line, counted from 1: up to it the lines aren't those of any log.
     #[error("line {0} is no step of a log")]

@@ -30,6 +30,3 @@ pub use read::read_steps;
 pub use refutation::Refutation;
 pub use steps::{Steps, is_step};
 pub use write::write_steps;
-
-#[cfg(test)]
-mod tests;

@@ -4,7 +4,7 @@ use crate::Steps;
 use bx_grid::CountProof;
 
 /// Why there is no layout of a ratio.
-#[derive(Debug, Drop)]
+#[derive(Drop)]
 pub enum Refutation {
     /// An inequality between counts.
     Count(CountProof),

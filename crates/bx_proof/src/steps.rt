@@ -11,7 +11,7 @@ use std::marker::Model;
 
 /// Steps of which the first has an id, and each other one the id behind the one before. Contracts see
 /// this first id and the list of the steps.
-#[derive(Debug, Drop)]
+#[derive(Drop)]
 pub struct Steps {
     first: u32,
     literals: Flat<Lit>,

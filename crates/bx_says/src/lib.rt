@@ -26,6 +26,3 @@ pub use head::say_head;
 pub use pins::say_pins;
 pub use rows::say_rows;
 pub use words::{Word, put_line, put_spaced, put_word, put_words};
-
-#[cfg(test)]
-mod tests;

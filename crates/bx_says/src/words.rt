@@ -9,7 +9,7 @@ ghost use Rattle.bx_says.specs.Words.{word_text, further_text};
 use bx_desk::{Desk, Failed, Piece};
 
 /// A word of a line.
-#[derive(Clone, Copy, Debug)]
+#[derive(Clone, Copy)]
 pub enum Word<'a> {
     /// These bytes, whatever they are.
     Text(&'a [u8]),

@@ -1,15 +1,15 @@
 -- What a solver does between two conflicts and at one, as events of the search.
-use Rattle.std.proofs.Common.{◌≡◌, ◌≢◌, ℕ, Bool, zero, suc, ◌+◌, ◌-◌, ◌<◌, ◌≤◌, inl, inr, List, [], ◌∷◌, ◌++◌, length, Some, None, refl, sym, ◌∙◌, ap, subst, arith, length-append}
+use Rattle.std.proofs.Common.{◌≡◌, ℕ, Bool, zero, suc, ◌+◌, ◌-◌, ◌<◌, ◌≤◌, inl, inr, List, [], ◌∷◌, ◌++◌, length, Some, None, Result, Ok, Err, refl, sym, ◌∙◌, ap, subst, arith, length-append}
+use Rattle.std.specs.Prelude.{IfOk}
 use Rattle.std.proofs.lemmas.Bool.{cases_order}
-use Rattle.bx_cnf.specs.Formulas.{Formula, IsFormula, AllTrue}
+use Rattle.bx_cnf.specs.Formulas.{Formula, IsFormula}
 use Rattle.bx_proof.specs.Steps.{Step, StepList}
-use Rattle.bx_proof.specs.Accepted.{IsAccepted}
 use Rattle.bx_watch.specs.Watching.{IsLeastActive}
 use Rattle.bx_watch.specs.declared.active.Active.TheVariants.{False}
 use Rattle.bx_search.specs.States.{State, start, clauses_of, watch_of, first_free}
 use Rattle.bx_search.specs.Searching.{Goes, After, Ends, IsConflict, IsQuiet, IsSearch, cost}
 use Rattle.bx_search.specs.Searching.Goes.{Propagates, Decides, Learns}
-use Rattle.bx_search.specs.Solving.{IsReached, state_of, IsSolver, Becomes, GoesTo, LearnsTo, Moves, Finds, EndsSo, TurnsTo}
+use Rattle.bx_search.specs.Solving.{IsReached, state_of, IsSolver, Becomes, GoesTo, LearnsTo, Moves, Finds, EndsSo, TurnsTo, IsAnswer}
 use Rattle.bx_search.specs.declared.outcome.Outcome.{Outcome}
 use Rattle.bx_search.specs.declared.outcome.Outcome.TheVariants.{Sat, Unsat, Stopped}
 use Rattle.bx_search.specs.declared.solver.Solver.{Solver}
@@ -183,18 +183,8 @@ pub running-most : (formula : Formula) (budget asked_first asked stops_first sto
 running-most formula budget asked_first asked stops_first stops s is end n found =
     omega (arith, is.counted, learned-by_then formula budget n (state_of s) end is.reached found)
 
--- what a solver's answer says
-pub record IsAnswered (formula : Formula) (budget : ℕ) (end : Outcome) (asked_first asked stops_first stops : ℕ) : Type 0 where
-  pub ended : end ≢ Stopped → (n : ℕ) × IsSearch formula budget end n × (asked ≡ asked_first + n)
-  pub not_stopped : end ≢ Stopped → stops ≡ stops_first
-  pub stopped : end ≡ Stopped → stops ≡ stops_first + 1
-  pub some : end ≡ Stopped → asked_first + 1 ≤ asked
-  pub at_most : (other : Outcome) (n : ℕ) → IsSearch formula budget other n → asked ≤ asked_first + n
-  pub accepted : (log : StepList) → end ≡ Unsat log → IsAccepted formula log
-  pub solved : (bits : List Bool) → end ≡ Sat bits → (length bits ≡ formula.vars) × AllTrue bits formula.clauses
-
 pub answered-end : (formula : Formula) (budget : ℕ) (end : Outcome) (asked_first asked stops_first stops : ℕ) (s : Solver) → IsRunning formula budget s asked_first asked stops_first stops
-    → EndsSo budget s end → IsAnswered formula budget end asked_first asked stops_first stops
+    → EndsSo budget s end → IsAnswer formula budget end asked_first asked stops_first stops
 answered-end formula budget end asked_first asked stops_first stops s is ends =
     let found : IsSearch formula budget end (length s.steps.steps) = is-search formula budget s end is.same ends in
     record {
@@ -202,7 +192,6 @@ answered-end formula budget end asked_first asked stops_first stops s is ends =
       not_stopped = λ other. is.going;
       stopped = λ e. absurd (never e);
       some = λ e. absurd (never e);
-      at_most = running-most formula budget asked_first asked stops_first stops s is;
       accepted = λ log e. log-accepted formula budget (length s.steps.steps) log (subst IsFormula is.same is.agrees.formed)
           (subst (λ (x : Outcome). IsSearch formula budget x (length s.steps.steps)) e found);
       solved = λ bits e. search-solves formula budget (length s.steps.steps) bits (subst IsFormula is.same is.agrees.formed)
@@ -212,7 +201,7 @@ answered-end formula budget end asked_first asked stops_first stops s is ends =
       never e = subst (λ (x : Outcome). Ends s.clauses.now budget ends.0 x) e ends.2
 
 pub answered-stop : (formula : Formula) (budget asked_first asked later stops_first stops last : ℕ) (old new : Solver) → IsRunning formula budget old asked_first asked stops_first stops
-    → TurnsTo budget old new More → later ≡ asked + 1 → last ≡ stops + 1 → IsAnswered formula budget Stopped asked_first later stops_first last
+    → TurnsTo budget old new More → later ≡ asked + 1 → last ≡ stops + 1 → IsAnswer formula budget Stopped asked_first later stops_first last
 answered-stop formula budget asked_first asked later stops_first stops last old new is turn later_is last_is =
     let on : IsRunning formula budget new asked_first later stops_first stops = running-on formula budget asked_first asked later stops_first stops stops old new is turn later_is refl in
     record {
@@ -220,7 +209,6 @@ answered-stop formula budget asked_first asked later stops_first stops last old 
       not_stopped = λ other. absurd (other refl);
       stopped = λ e. omega (arith, last_is, is.going);
       some = λ e. omega (arith, on.counted, turn.3);
-      at_most = running-most formula budget asked_first later stops_first stops new on;
       accepted = λ log e. absurd (differ log e);
       solved = λ bits e. absurd (differs bits e);
     } where
@@ -229,3 +217,8 @@ answered-stop formula budget asked_first asked later stops_first stops last old 
 
       differs : (bits : List Bool) → Stopped ≡ Sat bits → ⊥
       differs bits e = cc
+
+-- more is known of a value, if there is one
+pub if-ok : {T E : Type 0} (r : Result T E) (P Q : T → Type 0) → IfOk r P → ((x : T) → P x → Q x) → IfOk r Q
+if-ok (Ok x) P Q p more = more x p
+if-ok (Err e) P Q p more = tt

@@ -1,19 +1,22 @@
 -- What the solver's own contracts say: the states of the search that its parts stand for.
 use Rattle.std.specs.Prelude.{◌≡◌, ◌≢◌, ℕ, ◌+◌, ◌%◌, ◌<◌, ◌≤◌, ◌==◌, if◌then◌else◌, Bool, not, List, [], ◌∷◌, ◌++◌, Option, Some, None, length, count_by, map}
-use Rattle.bx_cnf.specs.Formulas.{Formula, IsFormula}
-use Rattle.bx_proof.specs.Steps.{Step}
+use Rattle.bx_cnf.specs.Formulas.{Formula, IsFormula, AllTrue}
+use Rattle.bx_proof.specs.Steps.{Step, StepList}
+use Rattle.bx_proof.specs.Accepted.{IsAccepted}
 use Rattle.bx_queue.specs.Queue.{IsQueue, IsVariable, is_taken}
 use Rattle.bx_watch.specs.Watching.{IsLeastActive}
 use Rattle.bx_watch.specs.declared.active.Active.TheVariants.{False}
 use Rattle.bx_search.specs.States.{Assigned, State, clauses_of, watch_of, is_assigned, first_free, values}
 use Rattle.bx_search.specs.Learning.{IsLearned, treated_from, second_highest}
-use Rattle.bx_search.specs.Searching.{After, Goes, Ends, IsQuiet, IsConflict, learned, cost}
+use Rattle.bx_search.specs.Searching.{After, Goes, Ends, IsQuiet, IsConflict, IsSearch, learned, cost}
 use Rattle.bx_search.specs.Marks.{unmarked as no_marks}
 use Rattle.bx_search.specs.declared.outcome.Outcome.{Outcome}
-use Rattle.bx_search.specs.declared.outcome.Outcome.TheVariants.{Sat, Unsat, Undecided}
+use Rattle.bx_search.specs.declared.outcome.Outcome.TheVariants.{Sat, Unsat, Undecided, Stopped}
 use Rattle.bx_search.specs.declared.solver.Solver.{Solver}
 use Rattle.bx_search.specs.declared.solver.Next.{Next}
 use Rattle.bx_search.specs.declared.solver.Next.TheVariants.{Assigned as Grows, Conflict, Complete}
+use Rattle.bx_search.specs.declared.search.Halt.{Halt}
+use Rattle.bx_search.specs.declared.search.Halt.TheVariants.{Complete as All_valued, Beyond as Passed, Empty as Refuted, Unwanted}
 use Rattle.bx_search.specs.declared.search.Turn.{Turn}
 use Rattle.bx_search.specs.declared.search.Turn.TheVariants.{Learned as More, Complete as Whole, Beyond as Over, Empty as None_left}
 use Rattle.bx_search.specs.declared.learn.Learned.{Learned}
@@ -120,3 +123,20 @@ TurnsTo budget old new More = IsSolver new × (new.clauses.now ≡ old.clauses.n
 TurnsTo budget old new Whole = (new.trail.vars ≡ old.clauses.now.vars) × EndsSo budget old (Sat (values old.clauses.now.vars new.trail.entries))
 TurnsTo budget old new Over = EndsSo budget old (Undecided new.spent)
 TurnsTo budget old new None_left = EndsSo budget old (Unsat new.steps)
+
+-- what a solver that goes no further answers
+abbrev pub outcome_of : Solver → Halt → Outcome
+outcome_of s All_valued = Sat (values s.trail.vars s.trail.entries)
+outcome_of s Passed = Undecided s.spent
+outcome_of s Refuted = Unsat s.steps
+outcome_of s Unwanted = Stopped
+
+-- An answer is the search's end, or its pulse stopped it. The pulse was asked once for each step, and at most
+-- as often as the search learns.
+pub record IsAnswer (formula : Formula) (budget : ℕ) (end : Outcome) (asked_first asked stops_first stops : ℕ) : Type 0 where
+  pub ended : end ≢ Stopped → (n : ℕ) × IsSearch formula budget end n × (asked ≡ asked_first + n)
+  pub not_stopped : end ≢ Stopped → stops ≡ stops_first
+  pub stopped : end ≡ Stopped → stops ≡ stops_first + 1
+  pub some : end ≡ Stopped → asked_first + 1 ≤ asked
+  pub accepted : (log : StepList) → end ≡ Unsat log → IsAccepted formula log
+  pub solved : (bits : List Bool) → end ≡ Sat bits → (length bits ≡ formula.vars) × AllTrue bits formula.clauses

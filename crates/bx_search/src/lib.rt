@@ -23,6 +23,3 @@ mod trail;
 pub use outcome::Outcome;
 pub use pulse::{Pulse, Steady};
 pub use search::solve;
-
-#[cfg(test)]
-mod tests;

@@ -13,7 +13,7 @@ use std::alloc::Global;
 use std::marker::Model;
 
 /// Variables that are marked. Contracts see a mark for each variable and the two counts.
-#[derive(Debug, Drop)]
+#[derive(Drop)]
 pub(crate) struct Marks {
     marked: Vec<bool>,
     left: usize,

@@ -4,7 +4,7 @@ use bx_cnf::Bits;
 use bx_proof::Steps;
 
 /// The end of a search.
-#[derive(Debug, Drop)]
+#[derive(Drop)]
 pub enum Outcome {
     /// These bits, one for each variable, make all clauses true.
     Sat(Bits),

@@ -36,7 +36,7 @@ pub trait Pulse {
 
 /// The pulse of a search that nothing stops. It says yes as often as 64 bits count, and no search asks so
 /// often: each ask is for a clause that was learned, which takes one of the budget at least.
-#[derive(Debug, Drop)]
+#[derive(Drop)]
 pub struct Steady {
     // how often the answer was yes
     yes: u64,

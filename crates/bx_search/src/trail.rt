@@ -14,7 +14,7 @@ use std::marker::Model;
 
 /// A literal that is assigned, its level, and the number of the clause that is its reason, none of a
 /// decision.
-#[derive(Clone, Copy, Debug)]
+#[derive(Clone, Copy)]
 pub(crate) struct Entry {
     lit: Lit,
     level: u32,
@@ -55,7 +55,7 @@ impl Entry {
 }
 
 /// The literals that are assigned. Contracts see the number of variables and the list of them.
-#[derive(Debug, Drop)]
+#[derive(Drop)]
 pub(crate) struct Trail {
     entries: Vec<Entry>,
     // of each variable, variable 1 first; that of a free one means nothing

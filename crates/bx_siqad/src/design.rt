@@ -7,7 +7,7 @@ use bx_library::Dot;
 use std::marker::Model;
 
 /// The sides of a grid, and the dots on it in their order. Contracts see the record of these two.
-#[derive(Debug, Drop)]
+#[derive(Drop)]
 pub struct Design {
     ratio: Ratio,
     dots: Vec<Dot>,

@@ -4,7 +4,7 @@ use std::alloc::AllocFailed;
 use thiserror::Error;
 
 /// Why no design was read.
-#[derive(Clone, Copy, Debug, PartialEq, Eq, Error)]
+#[derive(Clone, Copy, Debug, Error)]
 pub enum DesignFault {
     /// The first bad line, counted from 1: up to it the lines aren't those of any design.
     #[error("line {0} is no line of a design")]

@@ -41,6 +41,3 @@ pub use design::Design;
 pub use fault::DesignFault;
 pub use read::read_design;
 pub use write::write_design;
-
-#[cfg(test)]
-mod tests;

@@ -21,7 +21,7 @@ use Rattle.bx_syntax.specs.declared.part.Kind.TheVariants.{Declaration, Wire, As
 use Rattle.bx_syntax.specs.Trees.{Tree, net, bit, inverse, group, joined, Tail}
 use Rattle.bx_syntax.specs.Parts.{PartTree, wire, ModuleTree}
 use Rattle.bx_syntax.specs.Expressions.{sign}
-use Rattle.bx_syntax.specs.ReadsExpressions.{Reader, ◌>>=◌, stops, behind, operator_of, operator_at, linked, tail_within, tail_at, joined_at, level_at, inverse_with, group_with, primary_at, expr_at}
+use Rattle.bx_syntax.specs.ReadsExpressions.{Reader, ◌>>=◌, behind, operator_of, operator_at, linked, tail_within, tail_at, joined_at, level_at, inverse_with, group_with, primary_at, expr_at}
 use Rattle.bx_syntax.specs.Repeats.{repeat_within, repeated, ahead_of}
 use Rattle.bx_syntax.specs.ReadsModules.{next_is, name_at, past, past_name, comma_next, comma_step, listed_at, is_net, comma_behind_net, kind_at, item_next, directed as directed_at, port_at, comma_port, port_next, ports_at, header_at, at_end, expression, wire_at, assign_at, many_at, name_and_expression, few_at, connections_at, gate_at, part_at, item_at, one_item, module_at}
 use Rattle.bx_syntax.proofs.ReadsExpressions.{Ends, again, bind_ok, ok_is, operator_is, shrinks, Shrinks}

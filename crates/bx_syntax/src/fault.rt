@@ -2,7 +2,7 @@
 //! reader to answer.
 
 /// A construct of the language that the profile doesn't take.
-#[derive(Clone, Copy, Debug, PartialEq, Eq)]
+#[derive(Clone, Copy, Debug)]
 pub enum Construct {
     Vector,
     Ternary,
@@ -18,7 +18,7 @@ pub enum Construct {
 
 /// Why a list of tokens is refused as a module. A place is counted in bytes from 0; the end of the
 /// text is the text's length.
-#[derive(Clone, Copy, Debug, PartialEq, Eq)]
+#[derive(Clone, Copy, Debug)]
 pub enum ReadFault {
     /// The token at this place may not stand there.
     Syntax(u64),

@@ -25,6 +25,3 @@ pub mod tree;
 pub use fault::{Construct, ReadFault};
 pub use read::read_module;
 pub use tree::Module;
-
-#[cfg(test)]
-mod read_tests;

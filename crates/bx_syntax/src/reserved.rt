@@ -5,7 +5,7 @@ use crate::terminal::Mark;
 use bx_logic::Op;
 
 // What a reserved word that the grammar uses is to it.
-#[derive(Clone, Copy, Debug, PartialEq, Eq)]
+#[derive(Clone, Copy)]
 pub(crate) enum Word {
     Mark(Mark),
     Gate(Op),

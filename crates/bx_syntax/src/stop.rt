@@ -8,7 +8,7 @@ ghost use Rattle.bx_syntax.specs.declared.stop.Stop.TheVariants.{NoMemory as Out
 use std::alloc::{AllocError, AllocFailed};
 
 // What may stand where a reader stops, as far as the construct depends on it.
-#[derive(Clone, Copy, Debug, PartialEq, Eq)]
+#[derive(Clone, Copy, PartialEq, Eq)]
 pub(crate) enum Wanted {
     // An item of a module.
     Item,
@@ -21,7 +21,7 @@ pub(crate) enum Wanted {
 }
 
 // Why a reader stops. A place is how many terminals were left there.
-#[derive(Clone, Copy, Debug, PartialEq, Eq)]
+#[derive(Clone, Copy)]
 pub(crate) enum Stop {
     // The terminal there isn't one that may stand there.
     Bad(usize, Wanted),

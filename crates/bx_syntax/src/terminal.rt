@@ -5,7 +5,7 @@
 use bx_logic::{Name, Op};
 
 /// A word or a symbol that the grammar names by its spelling.
-#[derive(Clone, Copy, Debug, PartialEq, Eq)]
+#[derive(Clone, Copy, PartialEq, Eq)]
 pub enum Mark {
     Module,
     EndModule,
@@ -27,7 +27,7 @@ pub enum Mark {
 }
 
 /// A token as the grammar sees it.
-#[derive(Debug, Drop)]
+#[derive(Drop)]
 pub enum Terminal {
     Mark(Mark),
     /// The keyword of a gate.

@@ -11,7 +11,7 @@ use std::marker::Model;
 
 /// An operator between two operands. `And` binds tighter than `Xor` and `Xnor`, and these tighter
 /// than `Or`.
-#[derive(Clone, Copy, Debug, PartialEq, Eq)]
+#[derive(Clone, Copy)]
 pub enum Operator {
     And,
     Xor,
@@ -21,7 +21,7 @@ pub enum Operator {
 
 /// An expression.
 #[cycle(tree)]
-#[derive(Debug, Drop)]
+#[derive(Drop)]
 pub enum Expr {
     Net(Name),
     Bit(bool),
@@ -36,28 +36,28 @@ pub enum Expr {
 
 /// A further operand of a level, with the operator before it.
 #[cycle(tree)]
-#[derive(Debug, Drop)]
+#[derive(Drop)]
 pub struct Operand {
     pub operator: Operator,
     pub expr: Expr,
 }
 
 /// Whether a port is read or driven.
-#[derive(Clone, Copy, Debug, PartialEq, Eq)]
+#[derive(Clone, Copy)]
 pub enum Direction {
     Input,
     Output,
 }
 
 /// A port of the header, with its direction where the header gives one.
-#[derive(Debug, Drop)]
+#[derive(Drop)]
 pub struct Port {
     pub name: Name,
     pub direction: Option<Direction>,
 }
 
 /// What an item of a module says between two commas.
-#[derive(Debug, Drop)]
+#[derive(Drop)]
 pub enum Part {
     /// A declaration of a port's direction.
     Declaration(Direction, Name),
@@ -73,7 +73,7 @@ pub enum Part {
 
 /// A module: its name, its ports in the order of the header, and its items in the order of the text,
 /// each as the list of its parts.
-#[derive(Debug, Drop)]
+#[derive(Drop)]
 pub struct Module {
     name: Name,
     ports: Vec<Port>,

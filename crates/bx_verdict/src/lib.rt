@@ -15,6 +15,3 @@ mod verdict;
 
 pub use settled::{Last, Settled, settle};
 pub use verdict::{MOST_BUDGET, Verdict, judge};
-
-#[cfg(test)]
-mod tests;

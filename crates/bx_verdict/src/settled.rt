@@ -15,7 +15,7 @@ use bx_proof::Refutation;
 use std::alloc::Global;
 
 /// What is known of ratios in their order.
-#[derive(Debug, Drop)]
+#[derive(Drop)]
 pub struct Settled {
     /// Of each ratio before the first that isn't refuted, why it has no layout.
     pub refutations: Vec<Refutation>,
@@ -24,7 +24,7 @@ pub struct Settled {
 }
 
 /// The first ratio that isn't refuted.
-#[derive(Debug, Drop)]
+#[derive(Drop)]
 pub enum Last {
     /// It has a layout: these bits make every clause of its formula true.
     Found(Ratio, Bits),

@@ -23,7 +23,7 @@ use std::alloc::Global;
 pub const MOST_BUDGET: u64 = 4_000_000_000;
 
 /// What is known of a ratio.
-#[derive(Debug, Drop)]
+#[derive(Drop)]
 pub enum Verdict {
     /// It has no layout, for this reason.
     Refuted(Refutation),

@@ -1,5 +1,5 @@
 -- Names in the order of their bytes, each once: how one is found, and that its place stands for it.
-use Rattle.std.proofs.Common.{◌≡◌, ◌≢◌, ◌||◌, ◌++◌, Bor, ℕ, zero, suc, ◌+◌, ◌<◌, true, false, not, cond, eqb, List, [], ◌∷◌, length, map, get_or, take, refl, sym, subst, ap, ap₂, ◌∙◌, inl, inr, Some, arith, add-one, eq-eqb}
+use Rattle.std.proofs.Common.{◌≡◌, ◌≢◌, ◌||◌, ◌++◌, Bor, ℕ, zero, suc, ◌+◌, ◌<◌, false, not, cond, eqb, List, [], ◌∷◌, length, map, get_or, take, refl, sym, subst, ap, ap₂, ◌∙◌, inl, inr, Some, arith, add-one, eq-eqb}
 use Rattle.std.specs.Prelude.{slice_get, Result, Ok, Err}
 use Rattle.std.specs.Str.{bytes_eq}
 use Rattle.std.specs.List.{All, AllByRecursion, Contains, HoldsAt, dedup, list_any, position_or_len}

@@ -34,7 +34,7 @@ pub(crate) fn check(alloc: Global, names: &Names, uses: &[Uses]) -> Result<(), N
 }
 
 // What can be wrong with a name.
-#[derive(Clone, Copy, Debug)]
+#[derive(Clone, Copy)]
 enum Flaw {
     // It stands twice in the header, has two directions, stands in the header without one, or has one
     // and doesn't stand there.

@@ -136,7 +136,7 @@ impl NetDrivers {
 }
 
 // Names that are driven by one operation over the same expressions.
-#[derive(Clone, Copy, Debug)]
+#[derive(Clone, Copy)]
 struct Drive<'a> {
     targets: &'a [Name],
     op: Op,

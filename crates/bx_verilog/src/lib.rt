@@ -19,6 +19,3 @@ mod uses;
 pub use bx_syntax::{Construct, Module, ReadFault, read_module};
 pub use elaborate::to_net;
 pub use fault::NetFault;
-
-#[cfg(test)]
-mod tests;

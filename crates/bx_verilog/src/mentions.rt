@@ -3,6 +3,7 @@
 ghost use Rattle.std.specs.Prelude.{◌≡◌, ◌∷◌, [], ◌++◌, map, flat_map, IfOk, OnOk};
 ghost use Rattle.bx_syntax.specs.Trees.{tree};
 ghost use Rattle.bx_syntax.specs.Parts.{part, parts};
+ghost use Rattle.bx_syntax.specs.Texts.{IsTree};
 ghost use Rattle.bx_verilog.specs.Formulas.{formula};
 ghost use Rattle.bx_verilog.specs.Mentions.{all_as, port_mentions, reads_mentions, part_mentions, mentions as mentions_of};
 ghost use Rattle.bx_verilog.specs.Shown.{shown};
@@ -14,7 +15,7 @@ use bx_syntax::tree::{Expr, Operand, Part, Port};
 use std::alloc::Global;
 
 /// A name where it stands in a module, and what it stands for.
-#[derive(Clone, Copy, Debug)]
+#[derive(Clone, Copy)]
 pub(crate) struct Mention<'a> {
     pub name: &'a [u8],
     pub role: Role,
@@ -22,7 +23,9 @@ pub(crate) struct Mention<'a> {
 
 /// The names behind the module's own, in the order of the text.
 pub(crate) fn mentions(alloc: Global, parsed: &Module) -> Result<Vec<Mention<'_>>, NoMemory>
-    ensures { IfOk result (λ found. map shown found.items ≡ mentions_of parsed.now) }
+    ensures found { IfOk result (λ found. map shown found.items ≡ mentions_of parsed.now) }
+    // A module is the tree of some text.
+    ensures tree { IsTree parsed.now }
 {
     let mut found = Vec::new(alloc);
     push_ports(parsed.ports(), &mut found)?;

@@ -5,7 +5,7 @@
 use bx_syntax::tree::Direction;
 
 /// What a name stands for at one place.
-#[derive(Clone, Copy, Debug, PartialEq, Eq)]
+#[derive(Clone, Copy)]
 pub enum Role {
     /// A port of the header.
     Header,

@@ -13,7 +13,7 @@ use bx_syntax::tree::Direction;
 use std::alloc::Global;
 
 /// How often a name stands for what. An input is driven by its declaration.
-#[derive(Clone, Copy, Debug)]
+#[derive(Clone, Copy)]
 pub(crate) struct Uses {
     pub header: usize,
     pub directed: usize,

@@ -6,7 +6,7 @@ ghost use Rattle.bx_words.specs.Options.{most_work};
 use bx_grid::Limits;
 
 /// A command, as the words give it.
-#[derive(Clone, Copy, Debug)]
+#[derive(Clone, Copy)]
 pub enum Command<'w> {
     /// Lays out a module.
     Design(DesignCommand<'w>),
@@ -14,7 +14,7 @@ pub enum Command<'w> {
 
 /// The words `design NET CERT`, with the options as they are given or by default. The two names are apart, and
 /// the work is small enough for a search.
-#[derive(Clone, Copy, Debug)]
+#[derive(Clone, Copy)]
 pub struct DesignCommand<'w> {
     /// The file of the module.
     pub net: &'w str,

@@ -4,7 +4,7 @@ use crate::opts::Opt;
 use std::alloc::AllocError;
 
 /// What is wrong with the words, in the order in which they are looked at.
-#[derive(Clone, Copy, Debug, PartialEq, Eq)]
+#[derive(Clone, Copy)]
 pub enum WordFault {
     /// There is no first word, or it names no command.
     Command,
@@ -21,7 +21,7 @@ pub enum WordFault {
 }
 
 /// Why the words give no command.
-#[derive(Clone, Copy, Debug, PartialEq, Eq)]
+#[derive(Clone, Copy)]
 pub enum NoCommand {
     /// The first thing that is wrong with them.
     Fault(WordFault),

@@ -20,6 +20,3 @@ pub use faults::{NoCommand, WordFault};
 pub use limits::{MOST_BUDGET, MOST_WORK};
 pub use opts::Opt;
 pub use read::read_words;
-
-#[cfg(test)]
-mod tests;

@@ -6,7 +6,7 @@ use crate::limits::MOST_BUDGET;
 use bx_grid::MOST_LIMIT;
 
 /// A number that words may give. Where a command has several, they are told of in this order.
-#[derive(Clone, Copy, Debug, PartialEq, Eq)]
+#[derive(Clone, Copy)]
 pub enum Opt {
     /// The most tiles in all.
     Area,

@@ -6,7 +6,7 @@ ghost use Rattle.bx_words.specs.Verbs.{Text, file_name, line_of, verb_of, texts}
 use crate::opts::Opt;
 
 /// A file that a command's words name.
-#[derive(Clone, Copy, Debug, PartialEq, Eq)]
+#[derive(Clone, Copy)]
 pub enum File {
     /// The module, which is read.
     Net,
@@ -27,7 +27,7 @@ impl File {
 }
 
 /// A command's first word.
-#[derive(Clone, Copy, Debug, PartialEq, Eq)]
+#[derive(Clone, Copy)]
 pub enum Verb {
     /// `design`.
     Design,

@@ -1,79 +1,32 @@
-use Rattle.std.proofs.Common.{◌≡◌, ◌∙◌, ap, sym, subst, refl, List, Bool}
-use Rattle.bx_search.specs.States.{values}
-use Rattle.bx_search.specs.Solving.{EndsSo, TurnsTo}
-use Rattle.bx_search.specs.declared.outcome.Outcome.TheVariants.{Sat, Unsat}
-use Rattle.bx_search.specs.declared.search.Turn.TheVariants.{Learned as More, Complete as Whole, Empty as None_left}
-use Rattle.bx_search.proofs.Going.{running-first, running-on, running-most, answered-end}
+use Rattle.std.proofs.Common.{◌≡◌, ℕ, ◌+◌, length, sym, subst}
+use Rattle.bx_cnf.specs.Formulas.{Formula, AllTrue}
+use Rattle.bx_proof.specs.Accepted.{IsAccepted}
+use Rattle.bx_search.specs.Searching.{IsSearch}
+use Rattle.bx_search.specs.Solving.{IsAnswer}
+use Rattle.bx_search.proofs.Going.{if-ok}
 use Rattle.bx_search.proofs.search.solve.Goals as goal
 
-pub loop-solver-init : goal.loop-solver-init
-loop-solver-init g c = (
-  running-first c.args.clauses.now c.args.budget (g.P.Pulse.asked c.args.pulse.now) (g.P.Pulse.stops c.args.pulse.now) c.in_ok-solver.solver
-      c.in_ok-solver.ensures.agrees c.in_ok-solver.ensures.formula c.in_ok-solver.ensures.state,
-  c.requires.ready,
-  g.met.P.Pulse.leads_to_itself c.args.pulse.now,
-)
+pub returns-clause-at_most : goal.returns-clause-at_most
+returns-clause-at_most g c = λ end n found.
+    c.answer.ensures.at_most end n (subst (λ (f : Formula). IsSearch f c.args.budget end n) (sym c.in_ok-solver.ensures.formula) found)
 
-pub returns-in_err-turn-clause-at_most : goal.returns-in_err-turn-clause-at_most
-returns-in_err-turn-clause-at_most g c =
-    running-most c.args.clauses.now c.args.budget (g.P.Pulse.asked c.args.pulse.now) (g.P.Pulse.asked c.loop-solver.pulse) (g.P.Pulse.stops c.args.pulse.now) (g.P.Pulse.stops c.loop-solver.pulse)
-    c.loop-solver.solver c.loop-solver.invariant.0
+pub returns-clause-ended : goal.returns-clause-ended
+returns-clause-ended g c =
+    let pulse = c.answer.new.pulse in
+    if-ok c.answer.result (λ end. IsAnswer c.in_ok-solver.solver.clauses.now c.args.budget end (g.P.Pulse.asked c.args.pulse.now) (g.P.Pulse.asked pulse)
+    (g.P.Pulse.stops c.args.pulse.now) (g.P.Pulse.stops pulse)) _ c.answer.ensures.answers
+    (λ end is goes_on. subst (λ (f : Formula). (n : ℕ) × IsSearch f c.args.budget end n × (g.P.Pulse.asked pulse ≡ g.P.Pulse.asked c.args.pulse.now + n)) c.in_ok-solver.ensures.formula (is.ended goes_on))
 
-pub returns-in_err-values-in-Complete-clause-at_most : goal.returns-in_err-values-in-Complete-clause-at_most
-returns-in_err-values-in-Complete-clause-at_most g c =
-    running-most c.args.clauses.now c.args.budget (g.P.Pulse.asked c.args.pulse.now) (g.P.Pulse.asked c.loop-solver.pulse) (g.P.Pulse.stops c.args.pulse.now) (g.P.Pulse.stops c.loop-solver.pulse)
-    c.loop-solver.solver c.loop-solver.invariant.0
+pub returns-clause-solved : goal.returns-clause-solved
+returns-clause-solved g c =
+    let pulse = c.answer.new.pulse in
+    if-ok c.answer.result (λ end. IsAnswer c.in_ok-solver.solver.clauses.now c.args.budget end (g.P.Pulse.asked c.args.pulse.now) (g.P.Pulse.asked pulse)
+    (g.P.Pulse.stops c.args.pulse.now) (g.P.Pulse.stops pulse)) _ c.answer.ensures.answers
+    (λ end is bits e. subst (λ (f : Formula). (length bits ≡ f.vars) × AllTrue bits f.clauses) c.in_ok-solver.ensures.formula (is.solved bits e))
 
-pub returns-in-Complete-clause-ended : goal.returns-in-Complete-clause-ended
-returns-in-Complete-clause-ended g c =
-    let solver = c.loop-solver.solver in
-    let new = c.turn.new.self in
-    let turn : TurnsTo c.args.budget solver new Whole = subst (TurnsTo c.args.budget solver new) c.in-Complete.is c.in_ok-turn.ensures in
-    let bits : c.new-in-Complete.result ≡ values solver.clauses.now.vars new.trail.entries =
-    c.new-in-Complete.ensures ∙ (c.in_ok-values-in-Complete.ensures ∙ ap (λ n. values n new.trail.entries) turn.0) in
-    let ends : EndsSo c.args.budget solver (Sat c.new-in-Complete.result) = subst (λ (bs : List Bool). EndsSo c.args.budget solver (Sat bs)) (sym bits) turn.1 in
-    (answered-end c.args.clauses.now c.args.budget (Sat c.new-in-Complete.result) (g.P.Pulse.asked c.args.pulse.now) (g.P.Pulse.asked c.loop-solver.pulse)
-    (g.P.Pulse.stops c.args.pulse.now) (g.P.Pulse.stops c.loop-solver.pulse) solver c.loop-solver.invariant.0 ends).ended
-
-pub returns-in-Complete-clause-solved : goal.returns-in-Complete-clause-solved
-returns-in-Complete-clause-solved g c =
-    let solver = c.loop-solver.solver in
-    let new = c.turn.new.self in
-    let turn : TurnsTo c.args.budget solver new Whole = subst (TurnsTo c.args.budget solver new) c.in-Complete.is c.in_ok-turn.ensures in
-    let bits : c.new-in-Complete.result ≡ values solver.clauses.now.vars new.trail.entries =
-    c.new-in-Complete.ensures ∙ (c.in_ok-values-in-Complete.ensures ∙ ap (λ n. values n new.trail.entries) turn.0) in
-    let ends : EndsSo c.args.budget solver (Sat c.new-in-Complete.result) = subst (λ (bs : List Bool). EndsSo c.args.budget solver (Sat bs)) (sym bits) turn.1 in
-    (answered-end c.args.clauses.now c.args.budget (Sat c.new-in-Complete.result) (g.P.Pulse.asked c.args.pulse.now) (g.P.Pulse.asked c.loop-solver.pulse)
-    (g.P.Pulse.stops c.args.pulse.now) (g.P.Pulse.stops c.loop-solver.pulse) solver c.loop-solver.invariant.0 ends).solved
-
-pub returns-in-Complete-clause-at_most : goal.returns-in-Complete-clause-at_most
-returns-in-Complete-clause-at_most g c =
-    running-most c.args.clauses.now c.args.budget (g.P.Pulse.asked c.args.pulse.now) (g.P.Pulse.asked c.loop-solver.pulse) (g.P.Pulse.stops c.args.pulse.now) (g.P.Pulse.stops c.loop-solver.pulse)
-    c.loop-solver.solver c.loop-solver.invariant.0
-
-pub returns-in-Beyond-clause-at_most : goal.returns-in-Beyond-clause-at_most
-returns-in-Beyond-clause-at_most g c =
-    running-most c.args.clauses.now c.args.budget (g.P.Pulse.asked c.args.pulse.now) (g.P.Pulse.asked c.loop-solver.pulse) (g.P.Pulse.stops c.args.pulse.now) (g.P.Pulse.stops c.loop-solver.pulse)
-    c.loop-solver.solver c.loop-solver.invariant.0
-
-pub returns-in-Empty-clause-at_most : goal.returns-in-Empty-clause-at_most
-returns-in-Empty-clause-at_most g c =
-    running-most c.args.clauses.now c.args.budget (g.P.Pulse.asked c.args.pulse.now) (g.P.Pulse.asked c.loop-solver.pulse) (g.P.Pulse.stops c.args.pulse.now) (g.P.Pulse.stops c.loop-solver.pulse)
-    c.loop-solver.solver c.loop-solver.invariant.0
-
-pub returns-in-Empty-clause-accepted : goal.returns-in-Empty-clause-accepted
-returns-in-Empty-clause-accepted g c =
-    let solver = c.loop-solver.solver in
-    let new = c.turn.new.self in
-    let ends : TurnsTo c.args.budget solver new None_left = subst (TurnsTo c.args.budget solver new) c.in-Empty.is c.in_ok-turn.ensures in
-    (answered-end c.args.clauses.now c.args.budget (Unsat new.steps) (g.P.Pulse.asked c.args.pulse.now) (g.P.Pulse.asked c.loop-solver.pulse)
-    (g.P.Pulse.stops c.args.pulse.now) (g.P.Pulse.stops c.loop-solver.pulse) solver c.loop-solver.invariant.0 ends).accepted
-
-pub returns-then-not-wanted-clause-at_most : goal.returns-then-not-wanted-clause-at_most
-returns-then-not-wanted-clause-at_most g c =
-    let solver = c.loop-solver.solver in
-    let new = c.turn.new.self in
-    let turn : TurnsTo c.args.budget solver new More = subst (TurnsTo c.args.budget solver new) c.in-Learned.is c.in_ok-turn.ensures in
-    running-most c.args.clauses.now c.args.budget (g.P.Pulse.asked c.args.pulse.now) _ (g.P.Pulse.stops c.args.pulse.now) (g.P.Pulse.stops c.loop-solver.pulse) new
-    (running-on c.args.clauses.now c.args.budget (g.P.Pulse.asked c.args.pulse.now) (g.P.Pulse.asked c.loop-solver.pulse) _ (g.P.Pulse.stops c.args.pulse.now) (g.P.Pulse.stops c.loop-solver.pulse) (g.P.Pulse.stops c.loop-solver.pulse)
-    solver new c.loop-solver.invariant.0 turn c.wanted.ensures.counted refl)
+pub returns-clause-accepted : goal.returns-clause-accepted
+returns-clause-accepted g c =
+    let pulse = c.answer.new.pulse in
+    if-ok c.answer.result (λ end. IsAnswer c.in_ok-solver.solver.clauses.now c.args.budget end (g.P.Pulse.asked c.args.pulse.now) (g.P.Pulse.asked pulse)
+    (g.P.Pulse.stops c.args.pulse.now) (g.P.Pulse.stops pulse)) _ c.answer.ensures.answers
+    (λ end is log e. subst (λ (f : Formula). IsAccepted f log) c.in_ok-solver.ensures.formula (is.accepted log e))

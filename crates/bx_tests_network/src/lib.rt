@@ -1,0 +1,20 @@
+//! Tests of the networks, of the forms and grids that they stand on, and of layouts and counts. The values were
+//! worked out by hand. Nothing here is part of a program.
+#![tactic(auto)]
+
+#[cfg(test)]
+mod asserts;
+#[cfg(test)]
+mod bounds;
+#[cfg(test)]
+mod forms;
+#[cfg(test)]
+mod grid;
+#[cfg(test)]
+mod layout;
+#[cfg(test)]
+mod map;
+#[cfg(test)]
+mod nets;
+#[cfg(test)]
+mod network;

@@ -8,10 +8,7 @@ use Rattle.std.proofs.lemmas.Map.Steps.{length-le_from_distinct_below}
 use Rattle.bx_logic.specs.declared.driver.Driver.{Driver}
 use Rattle.bx_logic.specs.Nets.{arguments_of, driver_at, Reads, DependsOn, directly, through, IsAcyclic}
 use Rattle.bx_logic.specs.Cycles.{ReadsNetsOnly}
-
-pub all-weaker : {X : Type 0} (P Q : X → Type 0) → ((x : X) → P x → Q x) → (xs : List X) → AllByRecursion P xs → AllByRecursion Q xs
-all-weaker P Q h [] a = tt
-all-weaker P Q h (x ∷ xs) a = (h x a.0, all-weaker P Q h xs a.1)
+use Rattle.bx_logic.proofs.Lists.{all-weaker}
 
 both : (P Q : ℕ → Type 0) (xs : List ℕ) → AllByRecursion P xs → AllByRecursion Q xs → AllByRecursion (λ x. P x × Q x) xs
 both P Q [] a b = tt
@@ -27,9 +24,9 @@ unroll x step zero n = x
 unroll x step (suc k) n = step n (unroll x step k)
 
 -- no chain of k nets, each read by the one before, begins below it
-unfoldable pub IsSettled : List Driver → ℕ → ℕ → Type 0
-IsSettled drivers zero n = ⊥
-IsSettled drivers (suc k) n = AllByRecursion (λ m. IsSettled drivers k m) (arguments_of (driver_at drivers n))
+unfoldable pub IsShallow : List Driver → ℕ → ℕ → Type 0
+IsShallow drivers zero n = ⊥
+IsShallow drivers (suc k) n = AllByRecursion (λ m. IsShallow drivers k m) (arguments_of (driver_at drivers n))
 
 -- the step reads nothing but what the net reads
 unfoldable pub IsLocal : {X : Type 0} → List Driver → (ℕ → (ℕ → X) → X) → Type 0
@@ -37,12 +34,12 @@ IsLocal {X} drivers step =
     (n : ℕ) (f g : ℕ → X) → AllByRecursion (λ m. f m ≡ g m) (arguments_of (driver_at drivers n)) → step n f ≡ step n g
 
 unroll-stable : {X : Type 0} (x : X) (step : ℕ → (ℕ → X) → X) (drivers : List Driver) → IsLocal drivers step →
-    (k n : ℕ) → IsSettled drivers k n → unroll x step k n ≡ unroll x step (suc k) n
-unfolding unroll IsSettled IsLocal
+    (k n : ℕ) → IsShallow drivers k n → unroll x step k n ≡ unroll x step (suc k) n
+unfolding unroll IsShallow IsLocal
 unroll-stable x step drivers local zero n h = absurd h
 unroll-stable x step drivers local (suc k) n h =
     local n (unroll x step k) (unroll x step (suc k))
-    (all-weaker (λ m. IsSettled drivers k m) (λ m. unroll x step k m ≡ unroll x step (suc k) m)
+    (all-weaker (λ m. IsShallow drivers k m) (λ m. unroll x step k m ≡ unroll x step (suc k) m)
     (λ m s. unroll-stable x step drivers local k m s) (arguments_of (driver_at drivers n)) h)
 
 -- k nets below a net, none of them twice
@@ -99,24 +96,24 @@ all_or P G (x ∷ xs) a =
       ]
     ]
 
-settled_or_trail : (drivers : List Driver) → IsAcyclic drivers → ReadsNetsOnly drivers →
-    (k n : ℕ) → IsSettled drivers k n ⊎ Trail drivers k n
-unfolding IsSettled IsDistinct
-settled_or_trail drivers acyclic within zero n = inr (record { nets = []; long = refl; below = tt; apart = tt; within = tt })
-settled_or_trail drivers acyclic within (suc k) n =
-    all_or (λ m. IsSettled drivers k m) (Trail drivers (suc k) n) (arguments_of (driver_at drivers n))
-    (all-weaker (λ m. Reads drivers n m) (λ m. IsSettled drivers k m ⊎ Trail drivers (suc k) n)
-    (λ m reads. elim (settled_or_trail drivers acyclic within k m) [
+shallow_or_trail : (drivers : List Driver) → IsAcyclic drivers → ReadsNetsOnly drivers →
+    (k n : ℕ) → IsShallow drivers k n ⊎ Trail drivers k n
+unfolding IsShallow IsDistinct
+shallow_or_trail drivers acyclic within zero n = inr (record { nets = []; long = refl; below = tt; apart = tt; within = tt })
+shallow_or_trail drivers acyclic within (suc k) n =
+    all_or (λ m. IsShallow drivers k m) (Trail drivers (suc k) n) (arguments_of (driver_at drivers n))
+    (all-weaker (λ m. Reads drivers n m) (λ m. IsShallow drivers k m ⊎ Trail drivers (suc k) n)
+    (λ m reads. elim (shallow_or_trail drivers acyclic within k m) [
       | inl s ↦ inl s
       | inr trail ↦ inr (longer drivers acyclic within k n m reads trail)
     ])
     (arguments_of (driver_at drivers n))
     (arguments-read drivers n))
 
-pub settled : (drivers : List Driver) → IsAcyclic drivers → ReadsNetsOnly drivers →
-    (n : ℕ) → IsSettled drivers (suc (length drivers)) n
-settled drivers acyclic within n =
-    elim (settled_or_trail drivers acyclic within (suc (length drivers)) n) [
+pub shallow : (drivers : List Driver) → IsAcyclic drivers → ReadsNetsOnly drivers →
+    (n : ℕ) → IsShallow drivers (suc (length drivers)) n
+shallow drivers acyclic within n =
+    elim (shallow_or_trail drivers acyclic within (suc (length drivers)) n) [
       | inl s ↦ s
       | inr trail ↦
           let few = length-le_from_distinct_below trail.nets (length drivers) trail.apart
@@ -130,20 +127,20 @@ pub unrolled : {X : Type 0} (x : X) (step : ℕ → (ℕ → X) → X) (drivers 
     unroll x step (suc (length drivers)) n ≡ step n (unroll x step (suc (length drivers)))
 unfolding unroll
 unrolled x step drivers local acyclic within n =
-    unroll-stable x step drivers local (suc (length drivers)) n (settled drivers acyclic within n)
+    unroll-stable x step drivers local (suc (length drivers)) n (shallow drivers acyclic within n)
 
 -- two functions that the step gives on each net are the same there
 pub same_unrolled : {X : Type 0} (step : ℕ → (ℕ → X) → X) (drivers : List Driver) → IsLocal drivers step →
     ReadsNetsOnly drivers → (f g : ℕ → X) →
     ((n : ℕ) → n < length drivers → f n ≡ step n f) → ((n : ℕ) → n < length drivers → g n ≡ step n g) →
-    (k n : ℕ) → n < length drivers → IsSettled drivers k n → f n ≡ g n
-unfolding IsSettled IsLocal
+    (k n : ℕ) → n < length drivers → IsShallow drivers k n → f n ≡ g n
+unfolding IsShallow IsLocal
 same_unrolled step drivers local within f g is_f is_g zero n l h = absurd h
 same_unrolled step drivers local within f g is_f is_g (suc k) n l h =
     is_f n l
-    ∙ local n f g (all-weaker (λ m. Reads drivers n m × IsSettled drivers k m) (λ m. f m ≡ g m)
+    ∙ local n f g (all-weaker (λ m. Reads drivers n m × IsShallow drivers k m) (λ m. f m ≡ g m)
     (λ m s. same_unrolled step drivers local within f g is_f is_g k m (within n m s.0) s.1)
     (arguments_of (driver_at drivers n))
-    (both (λ m. Reads drivers n m) (λ m. IsSettled drivers k m) (arguments_of (driver_at drivers n))
+    (both (λ m. Reads drivers n m) (λ m. IsShallow drivers k m) (arguments_of (driver_at drivers n))
     (arguments-read drivers n) h))
     ∙ sym (is_g n l)

@@ -6,9 +6,6 @@ use Rattle.bx_logic.specs.Values.{value_of, IsNetValuation, output_values, AreOu
 use Rattle.bx_logic.specs.Behaviours.{Behaviour, net_behaviour, SameBehaviour, IsFunction}
 use Rattle.bx_logic.proofs.Valuations.{the_values, only_valuation, net-reads_within}
 
-pub same-refl : (one : Behaviour) → SameBehaviour one one
-same-refl one = record { forth = λ bits outputs h. h; back = λ bits outputs h. h }
-
 pub same-sym : (one other : Behaviour) → SameBehaviour one other → SameBehaviour other one
 same-sym one other same = record { forth = same.back; back = same.forth }
 
@@ -16,20 +13,6 @@ pub same-trans : (one other third : Behaviour) → SameBehaviour one other → S
 same-trans one other third a b = record {
   forth = λ bits outputs h. b.forth bits outputs (a.forth bits outputs h);
   back = λ bits outputs h. a.back bits outputs (b.back bits outputs h);
-}
-
--- what has the behaviour of a function is one
-pub same-function : (inputs outputs : ℕ) (one other : Behaviour) → SameBehaviour one other → IsFunction inputs outputs one → IsFunction inputs outputs other
-same-function inputs outputs one other same f = record {
-  one = λ bits fits. let (values, given) = f.one bits fits in (
-    values,
-    record {
-      gives = same.forth bits values given.gives;
-      only = λ others h. given.only others (same.back bits others h);
-    },
-  );
-  inputs_given = λ bits values h. f.inputs_given bits values (same.back bits values h);
-  outputs_given = λ bits values h. f.outputs_given bits values (same.back bits values h);
 }
 
 -- of two functions of as many inputs, where the second gives all that the first gives, it gives no more

@@ -7,6 +7,7 @@ use Rattle.bx_logic.specs.Values.{value_of, driver_value, output_values, AreOutp
 use Rattle.bx_logic.specs.Ascending.{MayStandAt}
 use Rattle.bx_logic.specs.Behaviours.{net_behaviour, SameBehaviour}
 use Rattle.bx_logic.specs.Inverters.{wire, inverter, two_inverters}
+use Rattle.bx_logic.proofs.Bools.{not-not}
 use Rattle.bx_logic.proofs.Ascending.{ascending-is_net}
 use Rattle.bx_logic.proofs.Behaviours.{same-functions, same-sym, outputs-of_valuation, net-function}
 
@@ -16,11 +17,6 @@ only-below bound n h = All-cons (λ m. m < bound) n [] h (All-nil (λ m. m < bou
 wire-stands : (n : ℕ) → n < 1 → MayStandAt 1 n (driver_at wire.drivers n)
 wire-stands zero h = (omega arith, refl)
 wire-stands (suc n) h = absurd (omega arith)
-
-inverter-stands : (n : ℕ) → n < 2 → MayStandAt 1 n (driver_at inverter.drivers n)
-inverter-stands zero h = (omega arith, refl)
-inverter-stands (suc zero) h = (omega arith, refl, only-below 1 0 (omega arith))
-inverter-stands (suc (suc n)) h = absurd (omega arith)
 
 two-stand : (n : ℕ) → n < 3 → MayStandAt 1 n (driver_at two_inverters.drivers n)
 two-stand zero h = (omega arith, refl)
@@ -32,11 +28,6 @@ wire-net : IsNet wire
 wire-net =
     ascending-is_net wire (omega arith) (omega arith) (omega arith) (only-below 1 0 (omega arith))
     (record { inputs_within = omega arith; each = wire-stands })
-
-inverter-net : IsNet inverter
-inverter-net =
-    ascending-is_net inverter (omega arith) (omega arith) (omega arith) (only-below 2 1 (omega arith))
-    (record { inputs_within = omega arith; each = inverter-stands })
 
 two-net : IsNet two_inverters
 two-net =
@@ -58,16 +49,12 @@ two-each bits (suc zero) h = refl
 two-each bits (suc (suc zero)) h = refl
 two-each bits (suc (suc (suc n))) h = absurd (omega arith)
 
-twice : (b : Bool) → not (not b) ≡ b
-twice true = refl
-twice false = refl
-
 -- what the wire gives, two inverters give
 two-give : (bits outputs : List Bool) → AreOutputValues wire bits outputs → AreOutputValues two_inverters bits outputs
 two-give bits outputs o =
     let b = value_of bits 0 in
     let same : value_of o.values 0 ≡ b = o.valuation.is.each 0 (omega arith) in
-    let is : outputs ≡ output_values two_inverters (two_values b) = o.read ∙ ap (λ (c : Bool). c ∷ []) (same ∙ sym (twice b)) in
+    let is : outputs ≡ output_values two_inverters (two_values b) = o.read ∙ ap (λ (c : Bool). c ∷ []) (same ∙ sym (not-not b)) in
     subst (AreOutputValues two_inverters bits) (sym is)
     (outputs-of_valuation two_inverters bits (two_values b) two-net o.inputs (record { whole = refl; each = two-each bits }))
 

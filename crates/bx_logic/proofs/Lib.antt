@@ -1,3 +1,5 @@
+pub mod Lists
+pub mod Bools
 pub mod Acyclic
 pub mod Valuations
 pub mod Behaviours

@@ -89,3 +89,14 @@ pub member_of_AllByRecursion : {X : Type 0} (P : X → Type 0) (x : X) (xs : Lis
 member_of_AllByRecursion P x [] a h = absurd h
 member_of_AllByRecursion P x (y ∷ ys) a (inl e) = subst P e a.0
 member_of_AllByRecursion P x (y ∷ ys) a (inr h) = member_of_AllByRecursion P x ys a.1 h
+
+-- the same of `Contains`
+
+pub Contains-here : {X : Type 0} (x : X) (xs : List X) → Contains (x ∷ xs) x
+Contains-here x xs = (0, omega arith, refl)
+
+pub Contains-there : {X : Type 0} (y : X) (xs : List X) (x : X) → Contains xs x → Contains (y ∷ xs) x
+Contains-there y xs x (k, l, e) = (suc k, omega arith, e)
+
+pub Contains-map : {X Y : Type 0} (f : X → Y) (xs : List X) (x : X) → Contains xs x → Contains (map f xs) (f x)
+Contains-map f xs x h = Contains-from_member (f x) (map f xs) (Member-map f x xs (Member-from_contains x xs h))

@@ -2,7 +2,7 @@
 use Rattle.std.proofs.Common.{◌≡◌, ℕ, zero, suc, ◌+◌, ◌<◌, ◌≤◌, ◌⊎◌, Bool, true, false, cond, List, [], ◌∷◌, ◌++◌, map, filter, flat_map, length, get_or, AllPairs, inl, inr, refl, subst, arith}
 use Rattle.std.specs.Prelude.{⊤}
 use Rattle.std.specs.List.{AllByRecursion, range_with_len}
-use Rattle.bx_logic.proofs.Members.{Member, Member-append_right, Member-append_cases, Member-filter_cases, Member-map_cases, Member-flat_map_cases, AllByRecursion-from_member, member_of_AllByRecursion}
+use Rattle.bx_logic.proofs.Members.{Member, Member-append_cases, Member-filter_cases, Member-map_cases, Member-flat_map_cases, AllByRecursion-from_member, member_of_AllByRecursion}
 
 pub at_or_above : (a x : ℕ) → a ≤ x → (a ≡ x) ⊎ (a + 1 ≤ x)
 at_or_above a x low = grind arith
@@ -70,11 +70,6 @@ Ascends-range a (suc n) =
     (AllByRecursion-from_member (λ x. a < x) (range_with_len (a + 1) n) (λ x m. let r = Member-range_bounds (a + 1) n x m in omega arith), Ascends-range (a + 1) n)
 
 -- what stands before an element is related to it
-pub Ascends-before : {X : Type 0} (R : X → X → Type 0) (x : X) (before after : List X) → Ascends R (before ++ x ∷ after) → AllByRecursion (λ y. R y x) before
-Ascends-before R x [] after a = tt
-Ascends-before R x (y ∷ ys) after a =
-    (member_of_AllByRecursion (R y) x (ys ++ x ∷ after) a.0 (Member-append_right x ys (x ∷ after) (inl refl)), Ascends-before R x ys after a.1)
-
 pub Member-get_or : {X : Type 0} (xs : List X) (k : ℕ) (d : X) → k < length xs → Member (get_or xs k d) xs
 Member-get_or [] k d l = absurd (omega arith)
 Member-get_or (x ∷ xs) zero d l = inl refl
@@ -86,7 +81,3 @@ AllPairs-from_ascends R (x ∷ xs) a zero zero d l m = absurd (omega arith)
 AllPairs-from_ascends R (x ∷ xs) a zero (suc j) d l m = member_of_AllByRecursion (R x) (get_or xs j d) xs a.0 (Member-get_or xs j d (omega arith))
 AllPairs-from_ascends R (x ∷ xs) a (suc i) zero d l m = absurd (omega arith)
 AllPairs-from_ascends R (x ∷ xs) a (suc i) (suc j) d l m = AllPairs-from_ascends R xs a.1 i j d (omega arith) (omega arith)
-
-pub Ascends-after : {X : Type 0} (R : X → X → Type 0) (x : X) (before after : List X) → Ascends R (before ++ x ∷ after) → AllByRecursion (R x) after
-Ascends-after R x [] after a = a.0
-Ascends-after R x (y ∷ ys) after a = Ascends-after R x ys after a.1

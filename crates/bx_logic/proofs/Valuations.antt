@@ -12,7 +12,8 @@ use Rattle.bx_logic.specs.Op.{op_value}
 use Rattle.bx_logic.specs.Nets.{arguments_of, driver_at, Reads, IsAcyclic, IsDriver, Netlist, IsNet, output_nets}
 use Rattle.bx_logic.specs.Values.{value_of, driver_value, IsNetValuation, IsOnlyNetValuation, AreOutputValues}
 use Rattle.bx_logic.specs.Cycles.{ReadsNetsOnly}
-use Rattle.bx_logic.proofs.Acyclic.{all-weaker, arguments-read, unroll, IsLocal, settled, unrolled, same_unrolled}
+use Rattle.bx_logic.proofs.Lists.{all-weaker}
+use Rattle.bx_logic.proofs.Acyclic.{arguments-read, unroll, IsLocal, shallow, unrolled, same_unrolled}
 
 driver-reads_within : (inputs nets : ℕ) (d : Driver) → IsDriver inputs nets d → All (λ m. m < nets) (arguments_of d)
 driver-reads_within inputs nets (Input i) h = λ k d l. absurd (omega arith)
@@ -104,7 +105,7 @@ unfolding value_step
 valuation-only drivers bits values others acyclic within v o =
     ext_get_or false others values (o.whole ∙ sym v.whole)
     (λ i h. same_unrolled (value_step drivers bits) drivers (value_step-local drivers bits) within (value_of others) (value_of values)
-    (λ n l. o.each n l) (λ n l. v.each n l) (suc (length drivers)) i (omega (arith, o.whole)) (settled drivers acyclic within i))
+    (λ n l. o.each n l) (λ n l. v.each n l) (suc (length drivers)) i (omega (arith, o.whole)) (shallow drivers acyclic within i))
 
 pub only_valuation : (drivers : List Driver) (bits : List Bool) → IsAcyclic drivers → ReadsNetsOnly drivers →
     IsOnlyNetValuation drivers bits (the_values drivers bits)

@@ -13,7 +13,7 @@ use Rattle.bx_logic.specs.Nets.{arguments_of, driver_at, IsAcyclic}
 use Rattle.bx_logic.specs.Values.{value_of, driver_value, IsNetValuation}
 use Rattle.bx_logic.specs.Known.{known_at, IsKnown, known_value, IsRight, KeepsKnown, frame_for}
 use Rattle.bx_logic.specs.Cycles.{ReadsNetsOnly}
-use Rattle.bx_logic.proofs.Acyclic.{all-weaker}
+use Rattle.bx_logic.proofs.Lists.{all-weaker}
 use Rattle.bx_logic.proofs.Valuations.{driver_value-local, cost, cost-is}
 
 abbrev pub first_net : List Frame → Option ℕ

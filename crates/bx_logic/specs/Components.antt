@@ -1,5 +1,5 @@
 -- The search for components: which nets its parts may name.
-use Rattle.std.specs.Prelude.{◌≡◌, ℕ, ◌<◌, ◌≤◌, ◌⊎◌, Bool, false, List, Option, Some, None, length, slice_index_or, All, Contains}
+use Rattle.std.specs.Prelude.{◌≡◌, ℕ, ◌<◌, ◌≤◌, ◌⊎◌, Bool, false, List, ◌∷◌, map, Option, Some, None, length, slice_index_or, All, Contains}
 use Rattle.bx_logic.specs.declared.components.Step.{Step}
 use Rattle.bx_logic.specs.declared.components.Step.TheVariants.{Enter, Leave}
 use Rattle.bx_logic.specs.declared.components.Components.{Components}
@@ -8,6 +8,10 @@ use Rattle.bx_logic.specs.declared.components.Search.{Search}
 abbrev pub net_of : Step → ℕ
 net_of (Enter n) = n
 net_of (Leave n) = n
+
+-- the steps of a visit of a net that reads these: it is left once they are entered, the last one first
+abbrev pub visit_of : ℕ → List ℕ → List Step
+visit_of n reads = Leave n ∷ map Enter reads
 
 -- the steps are of nets among so many
 abbrev pub AreSteps : ℕ → List Step → Type 0

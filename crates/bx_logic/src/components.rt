@@ -5,10 +5,10 @@
 //! a rank for each net and no more: who uses the ranks is to check them.
 ghost use Rattle.std.specs.List.{range_with_len};
 ghost use Rattle.std.specs.Prelude.{◌≡◌, ◌<◌, ◌++◌, [], ◌∷◌, true, false, slice_set, All, IfOk, IsTrue, OnOk, length, map, vec_len};
-ghost use Rattle.bx_logic.specs.declared.components.Step.TheVariants.{Enter, Leave};
+ghost use Rattle.bx_logic.specs.declared.components.Step.TheVariants.{Enter};
 ghost use Rattle.bx_logic.specs.Nets.{arguments_of, driver_at};
 ghost use Rattle.bx_logic.specs.Cycles.{ReadsNetsOnly};
-ghost use Rattle.bx_logic.specs.Components.{IsSearch, was_seen, AreComponents, IsLowestPlace};
+ghost use Rattle.bx_logic.specs.Components.{IsSearch, visit_of, was_seen, AreComponents, IsLowestPlace};
 
 use crate::{Driver, NoMemory};
 use std::alloc::Global;
@@ -61,8 +61,10 @@ impl Search {
         requires arguments { All (λ m. m < length self.old.seen.items) arguments.now }
         ensures search { OnOk result (IsSearch (length self.old.seen.items) self.new) }
         ensures again { IsTrue (was_seen self.old.seen.items net) → self.new ≡ self.old }
-        ensures seen { OnOk result (was_seen self.old.seen.items net ≡ false → self.new.seen.items ≡ slice_set self.old.seen.items net true) }
-        ensures steps { OnOk result (was_seen self.old.seen.items net ≡ false → self.new.steps.items ≡ self.old.steps.items ++ (Leave net ∷ map Enter arguments.now)) }
+        ensures seen { OnOk result (was_seen self.old.seen.items net ≡ false
+            → self.new.seen.items ≡ slice_set self.old.seen.items net true) }
+        ensures steps { OnOk result (was_seen self.old.seen.items net ≡ false
+            → self.new.steps.items ≡ self.old.steps.items ++ visit_of net arguments.now) }
     {
         if self.seen[net as usize] {
             return Ok(());
@@ -93,7 +95,7 @@ fn all_entries(alloc: Global, nets: u32) -> Result<Vec<Step>, NoMemory>
 
 // Puts last the steps to enter these nets and then to leave the net that reads them.
 fn push_visit(steps: &mut Vec<Step>, net: u32, arguments: &[u32]) -> Result<(), NoMemory>
-    ensures { OnOk result (steps.new.items ≡ steps.old.items ++ (Leave net ∷ map Enter arguments.now)) }
+    ensures { OnOk result (steps.new.items ≡ steps.old.items ++ visit_of net arguments.now) }
 {
     steps.push(Step::Leave(net))?;
     for argument in arguments {
@@ -135,8 +137,10 @@ impl Components {
         requires components { AreComponents (length self.old.places.items) self.old }
         requires within { net < length self.old.places.items }
         ensures components { OnOk result (AreComponents (length self.old.places.items) self.new) }
-        ensures place { OnOk result (self.new.places.items ≡ slice_set self.old.places.items net (Some (vec_len self.old.open_nets))) }
-        ensures opened { OnOk result (self.new.open_nets.items ≡ self.old.open_nets.items ++ (net ∷ [])) }
+        ensures place { OnOk result (self.new.places.items
+            ≡ slice_set self.old.places.items net (Some (vec_len self.old.open_nets))) }
+        ensures opened { OnOk result (self.new.open_nets.items
+            ≡ self.old.open_nets.items ++ (net ∷ [])) }
     {
         self.places[net as usize] = Some(self.open_nets.len());
         self.open_nets.push(net)?;

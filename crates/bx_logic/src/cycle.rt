@@ -16,7 +16,8 @@ use std::alloc::Global;
 pub fn least_net_on_cycle(alloc: Global, drivers: &[Driver]) -> Result<Option<u32>, NoMemory>
     requires few { length drivers.now < 4294967296 }
     requires reads { ReadsNetsOnly drivers.now }
-    ensures least { IfOk result (λ found. MatchOption found (IsAcyclic drivers.now) (λ net. IsLeastOnCycle drivers.now net)) }
+    ensures least { IfOk result (λ found.
+        MatchOption found (IsAcyclic drivers.now) (IsLeastOnCycle drivers.now)) }
     ensures within { IfOk result (λ found. IfSome found (λ net. net < length drivers.now)) }
 {
     let ranks = component_ranks(alloc, drivers)?;

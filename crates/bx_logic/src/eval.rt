@@ -40,7 +40,7 @@ impl Net {
         let known = values.as_mut_slice();
         for j in 0..self.output_count() {
             let net = self.output_net(j);
-            self.settle(alloc, bits, known, net)?;
+            self.make_known(alloc, bits, known, net)?;
             out.push(known[net as usize].unwrap())?;
         }
         Ok(())
@@ -48,7 +48,7 @@ impl Net {
 
     // Makes the value of a net known, and those of the nets that it depends on. A net is known before
     // what reads it.
-    fn settle(
+    fn make_known(
         &self,
         alloc: Global,
         bits: &[bool],

@@ -13,18 +13,26 @@ ghost use Rattle.bx_logic.specs.Inverters.{inverter, two_inverters, wire};
 
 /// For any values of its inputs the nets of a net have exactly one valuation.
 pub fn a_net_has_one_valuation()
-    ensures { (net : Netlist) (bits : List Bool) → IsNet net → (values : List Bool) × IsOnlyNetValuation net.drivers bits values }
+    ensures { (net : Netlist) (bits : List Bool) → IsNet net
+        → (values : List Bool) × IsOnlyNetValuation net.drivers bits values }
 {}
 
 /// Where the inputs come first and each gate reads earlier nets alone, the lists make a net.
 pub fn an_ascending_list_makes_a_net()
-    ensures { (net : Netlist) → length net.inputs < 4294967296 → length net.outputs < 4294967296 → length net.drivers < 4294967296 → All (λ n. n < length net.drivers) (output_nets net) → IsAscending (length net.inputs) net.drivers → IsNet net }
+    ensures { (net : Netlist)
+        → length net.inputs < 4294967296
+        → length net.outputs < 4294967296
+        → length net.drivers < 4294967296
+        → All (λ n. n < length net.drivers) (output_nets net)
+        → IsAscending (length net.inputs) net.drivers
+        → IsNet net }
 {}
 
 /// For each list of as many values as it has inputs a net gives one list of as many values as it has
 /// outputs, and no other list; for fewer values or more it gives none.
 pub fn a_net_gives_one_list_of_outputs()
-    ensures { (net : Netlist) → IsNet net → IsFunction (length net.inputs) (length net.outputs) (net_behaviour net) }
+    ensures { (net : Netlist) → IsNet net
+        → IsFunction (length net.inputs) (length net.outputs) (net_behaviour net) }
 {}
 
 /// Two inverters in a row have the behaviour of a wire, and one has not.
@@ -35,29 +43,39 @@ pub fn two_inverters_are_a_wire()
 
 /// A gate without arguments makes no net, nor does a `Buf` or a `Not` of two.
 pub fn a_gate_has_the_arguments_of_its_operation()
-    ensures none { (net : Netlist) (n : ℕ) (op : Op) → driver_at net.drivers n ≡ Gate op [] → IsNet net → ⊥ }
-    ensures buf { (net : Netlist) (n a b : ℕ) → driver_at net.drivers n ≡ Gate Buf (a ∷ b ∷ []) → IsNet net → ⊥ }
-    ensures not { (net : Netlist) (n a b : ℕ) → driver_at net.drivers n ≡ Gate Not (a ∷ b ∷ []) → IsNet net → ⊥ }
+    ensures none { (net : Netlist) (n : ℕ) (op : Op)
+        → driver_at net.drivers n ≡ Gate op [] → IsNet net → ⊥ }
+    ensures buf { (net : Netlist) (n a b : ℕ)
+        → driver_at net.drivers n ≡ Gate Buf (a ∷ b ∷ []) → IsNet net → ⊥ }
+    ensures not { (net : Netlist) (n a b : ℕ)
+        → driver_at net.drivers n ≡ Gate Not (a ∷ b ∷ []) → IsNet net → ⊥ }
 {}
 
 /// Where a net reads itself, or two read each other, the lists make no net.
 pub fn nets_that_read_one_another_are_none()
     ensures itself { (net : Netlist) (n : ℕ) → Reads net.drivers n n → IsNet net → ⊥ }
-    ensures each_other { (net : Netlist) (n m : ℕ) → Reads net.drivers n m → Reads net.drivers m n → IsNet net → ⊥ }
+    ensures each_other { (net : Netlist) (n m : ℕ)
+        → Reads net.drivers n m → Reads net.drivers m n → IsNet net → ⊥ }
 {}
 
 /// An inversion of itself has no valuation, and a copy of itself has two.
 pub fn a_loop_has_no_valuation_or_two()
-    ensures inversion { (bits values : List Bool) → IsNetValuation (Gate Not (0 ∷ []) ∷ []) bits values → ⊥ }
-    ensures copy { (bits : List Bool) (b : Bool) → IsNetValuation (Gate Buf (0 ∷ []) ∷ []) bits (b ∷ []) }
+    ensures inversion { (bits values : List Bool)
+        → IsNetValuation (Gate Not (0 ∷ []) ∷ []) bits values → ⊥ }
+    ensures copy { (bits : List Bool) (b : Bool)
+        → IsNetValuation (Gate Buf (0 ∷ []) ∷ []) bits (b ∷ []) }
 {}
 
 /// Of one value an operation gives the value, and one that inverts gives the inverse.
 pub fn what_operations_give_of_one_value()
     ensures buf { (b : Bool) → op_value Buf (b ∷ []) ≡ b }
     ensures not { (b : Bool) → op_value Not (b ∷ []) ≡ not b }
-    ensures straight { (b : Bool) → (op_value And (b ∷ []) ≡ b) × (op_value Or (b ∷ []) ≡ b) × (op_value Xor (b ∷ []) ≡ b) }
-    ensures inverted { (b : Bool) → (op_value Nand (b ∷ []) ≡ not b) × (op_value Nor (b ∷ []) ≡ not b) × (op_value Xnor (b ∷ []) ≡ not b) }
+    ensures and { (b : Bool) → op_value And (b ∷ []) ≡ b }
+    ensures or { (b : Bool) → op_value Or (b ∷ []) ≡ b }
+    ensures xor { (b : Bool) → op_value Xor (b ∷ []) ≡ b }
+    ensures nand { (b : Bool) → op_value Nand (b ∷ []) ≡ not b }
+    ensures nor { (b : Bool) → op_value Nor (b ∷ []) ≡ not b }
+    ensures xnor { (b : Bool) → op_value Xnor (b ∷ []) ≡ not b }
 {}
 
 /// Of two values an operation gives what its name says.
@@ -74,7 +92,9 @@ pub fn what_operations_give_of_two_values()
 /// disjunction and the parity of all. A chain of gates of two arguments, each over the value of the one
 /// before, would give the inverse in each of these rows.
 pub fn n_ary_operations_negate_once()
-    ensures once { (bs : List Bool) → (op_value Nand bs ≡ not (op_value And bs)) × (op_value Nor bs ≡ not (op_value Or bs)) × (op_value Xnor bs ≡ not (op_value Xor bs)) }
+    ensures nands { (bs : List Bool) → op_value Nand bs ≡ not (op_value And bs) }
+    ensures nors { (bs : List Bool) → op_value Nor bs ≡ not (op_value Or bs) }
+    ensures xnors { (bs : List Bool) → op_value Xnor bs ≡ not (op_value Xor bs) }
     ensures nand { op_value Nand (false ∷ true ∷ true ∷ []) ≡ true }
     ensures nor { op_value Nor (true ∷ false ∷ false ∷ []) ≡ false }
     ensures xnor { op_value Xnor (true ∷ true ∷ false ∷ []) ≡ true }

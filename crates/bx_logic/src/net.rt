@@ -24,7 +24,8 @@ impl Model for Net {
 
     ghost view = { λ net. netlist net.name net.inputs.items net.outputs.items net.drivers.items };
 
-    ghost invariant = { λ net. IsNet (netlist net.name net.inputs.items net.outputs.items net.drivers.items) };
+    ghost invariant = { λ net.
+        IsNet (netlist net.name net.inputs.items net.outputs.items net.drivers.items) };
 }
 
 impl Net {

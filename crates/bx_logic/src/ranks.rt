@@ -17,7 +17,8 @@ pub fn ranked_until(drivers: &[Driver], ranks: &[u32]) -> u32
     requires ranks { length ranks.now ≡ length drivers.now }
     ensures within { result ≤ length drivers.now }
     ensures acyclic { (n : ℕ) → n < result → DependsOn drivers.now n n → ⊥ }
-    ensures level { NeverRises drivers.now ranks.now → result < length drivers.now → FallsFrom drivers.now ranks.now result → ⊥ }
+    ensures level { NeverRises drivers.now ranks.now → result < length drivers.now
+        → FallsFrom drivers.now ranks.now result → ⊥ }
 {
     if never_rises(drivers, ranks) {
         first_level(drivers, ranks)

@@ -1,10 +1,8 @@
 -- The first output that folds to a constant.
 use Rattle.std.proofs.Common.{◌≡◌, ℕ, ◌+◌, ◌<◌, ◌≤◌, nat_lt, Bool, true, false, Some, None, List, [], ◌∷◌, ◌++◌, length, map, take, get_or, refl, sym, ◌∙◌, ap, subst, arith, below_more}
-use Rattle.std.specs.List.{position, position_or_len}
-use Rattle.std.proofs.lemmas.Bool.{lt-ltb, le-ltb}
 use Rattle.std.proofs.lemmas.List.{get_or-map, length-map, map_more, take_all}
-use Rattle.std.proofs.lemmas.List.Sums.{position_or_len_is}
 use Rattle.bx_logic.specs.Nets.{Netlist, IsNet, output_nets}
+use Rattle.bx_logic.proofs.Lists.{position-is, position-none}
 use Rattle.bx_map.specs.declared.cell.Cell.{Cell}
 use Rattle.bx_map.specs.declared.cell.Value.{Value}
 use Rattle.bx_map.specs.declared.cell.Value.TheVariants.{Constant, Signal}
@@ -12,19 +10,6 @@ use Rattle.bx_map.specs.Folds.{fold_value, folding}
 use Rattle.bx_map.specs.Cells.{cell_net, AreCells}
 use Rattle.bx_map.specs.Maps.{is_constant, signal_of, output_folds, first_constant, all_cells}
 use Rattle.bx_map.proofs.Mapping.{all_cells-are}
-
-first-is : {X : Type 0} (p : X → Bool) (xs : List X) (j : ℕ) (d : X) → j < length xs → ((k : ℕ) → k < j → p (get_or xs k d) ≡ false) → p (get_or xs j d) ≡ true →
-    position p xs ≡ Some j
-first-is p xs j d l before here =
-    let e = position_or_len_is p xs j d (omega arith) before (λ m. here) in
-    let found : nat_lt (position_or_len p xs) (length xs) ≡ true = lt-ltb (position_or_len p xs) (length xs) (omega (arith, e)) in
-    rw found (ap (λ (k : ℕ). Some k) e)
-
-none-is : {X : Type 0} (p : X → Bool) (xs : List X) (d : X) → ((k : ℕ) → k < length xs → p (get_or xs k d) ≡ false) → position p xs ≡ None
-none-is p xs d before =
-    let e = position_or_len_is p xs (length xs) d (omega arith) before (λ m. absurd (omega arith)) in
-    let missing : nat_lt (position_or_len p xs) (length xs) ≡ false = le-ltb (position_or_len p xs) (length xs) (omega (arith, e)) in
-    rw missing refl
 
 -- no output before this one folds to a constant
 abbrev pub SignalsBefore : Netlist → ℕ → Type 0
@@ -44,7 +29,7 @@ module _ (net : Netlist) (values : List Value) (is : values ≡ (folding net).va
       first_constant net ≡ Some j
   constant-first j n b l e f before =
       let all = many in
-      first-is is_constant (output_folds net) j (Constant false) (omega (arith, all)) before (ap is_constant (output-at j n l e ∙ f))
+      position-is is_constant (output_folds net) j (Constant false) (omega (arith, all)) before (ap is_constant (output-at j n l e ∙ f))
 
   pub signals-more : (j n a : ℕ) → j < length net.outputs → n ≡ get_or (output_nets net) j 0 → fold_value values n ≡ Signal a → SignalsBefore net j → SignalsBefore net (j + 1)
   signals-more j n a l e f before = below_more _ _ before (ap is_constant (output-at j n l e ∙ f))
@@ -58,7 +43,7 @@ module _ (net : Netlist) (values : List Value) (is : values ≡ (folding net).va
       ∙ sym (map_more signal_of (output_folds net) j (Constant false) (omega (arith, all)))))
 
   pub no-constant : (j : ℕ) → length net.outputs ≤ j → SignalsBefore net j → first_constant net ≡ None
-  no-constant j l before = let all = many in none-is is_constant (output_folds net) (Constant false) (λ k m. before k (omega (arith, all)))
+  no-constant j l before = let all = many in position-none is_constant (output_folds net) (Constant false) (λ k m. before k (omega (arith, all)))
 
   pub all-made : (j : ℕ) (made : List ℕ) → length net.outputs ≤ j → made ≡ map signal_of (take j (output_folds net)) → made ≡ map signal_of (output_folds net)
   all-made j made l e = let all = many in e ∙ ap (map signal_of) (take_all j (output_folds net) (omega (arith, all)))

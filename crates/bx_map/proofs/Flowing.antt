@@ -5,17 +5,17 @@ use Rattle.std.proofs.lemmas.Bool.{cases_lt}
 use Rattle.std.proofs.lemmas.List.{length-append, length-replicate, get_or_append_left, get_or-append_right, get_or-replicate}
 use Rattle.bx_logic.specs.Values.{value_of}
 use Rattle.bx_network.specs.declared.node.Edge.{Edge}
+use Rattle.bx_logic.proofs.Lists.{all-append, all-first, all-second}
 use Rattle.bx_map.specs.declared.cell.Target.{Target}
 use Rattle.bx_map.specs.declared.cell.Cell.{Cell}
 use Rattle.bx_map.specs.declared.cell.Cell.TheVariants.{Input, Not, Gate}
-use Rattle.bx_map.specs.FanOuts.{IsCellNet}
+use Rattle.bx_map.specs.FanOuts.{IsCellNet, operand_uses, output_uses, uses, consumers, FanOut, direct, fan, tree_at}
 use Rattle.bx_map.specs.Cells.{CellNet, cell_at, operands_of}
 use Rattle.bx_map.specs.declared.consumer.Consumer.{Consumer}
 use Rattle.bx_map.specs.declared.consumer.Consumer.TheVariants.{Operand, Output}
 use Rattle.bx_map.specs.declared.consumer.Use.{Use}
-use Rattle.bx_map.specs.FanOuts.{operand_uses, output_uses, uses, consumers, FanOut, direct, fan, served}
-use Rattle.bx_map.specs.Numbers.{edge_to, fans, nodes_before, number, place, entry, fan_edges, edges_before, numbered}
-use Rattle.bx_map.proofs.Numbering.{leaves, leaves-served, number-next, number-rises, all-append, all-first, all-second, all-uses, target_of}
+use Rattle.bx_map.specs.Numbers.{edge_to, fans, nodes_before, number, place, entry, fan_edges, edges_before, numbering_of}
+use Rattle.bx_map.proofs.Numbering.{leaves, leaves-tree_at, number-next, number-rises, all-uses, target_of}
 use Rattle.bx_map.proofs.Networked.{all-consumers}
 
 -- what a consumer reads: this is the operand of the cell, or the cell of the output
@@ -92,22 +92,22 @@ cells-edges net h zero l = tt
 cells-edges net h (suc i) l =
     let v : ℕ = number net i in
     let a = number-next net i in
-    let fits : suc v + length (fans (served net i)) ≤ number net (suc i) = omega (arith, a) in
-    let d = subst (AllByRecursion (IsRead net i)) (sym (leaves-served net i (h.consumed i (omega arith)))) (consumers-read net i) in
-    all-append (IsEdgeOf net) (edges_before net i) (edge_to v 0 (entry net (suc v) (served net i)) ∷ fan_edges net (suc v) (served net i))
+    let fits : suc v + length (fans (tree_at net i)) ≤ number net (suc i) = omega (arith, a) in
+    let d = subst (AllByRecursion (IsRead net i)) (sym (leaves-tree_at net i (h.consumed i (omega arith)))) (consumers-read net i) in
+    all-append (IsEdgeOf net) (edges_before net i) (edge_to v 0 (entry net (suc v) (tree_at net i)) ∷ fan_edges net (suc v) (tree_at net i))
     (cells-edges net h i (omega arith)) (
-      record { cell = i; among = omega arith; from = omega arith; until = omega (arith, a); ends = entry-ends net i (suc v) (served net i) (omega arith) fits d },
-      fan-edges_of net i (omega arith) (suc v) (served net i) (omega arith) fits d,
+      record { cell = i; among = omega arith; from = omega arith; until = omega (arith, a); ends = entry-ends net i (suc v) (tree_at net i) (omega arith) fits d },
+      fan-edges_of net i (omega arith) (suc v) (tree_at net i) (omega arith) fits d,
     )
 
-pub all-edges_of : (net : CellNet) → IsCellNet net → AllByRecursion (IsEdgeOf net) (numbered net).edges
-unfolding numbered
+pub all-edges_of : (net : CellNet) → IsCellNet net → AllByRecursion (IsEdgeOf net) (numbering_of net).edges
+unfolding numbering_of
 all-edges_of net h = cells-edges net h (length net.cells) (omega arith)
 
 -- the value of each node, for values of the cells
 
 abbrev block : CellNet → List Bool → ℕ → List Bool
-block net known i = replicate (suc (length (fans (served net i)))) (value_of known i)
+block net known i = replicate (suc (length (fans (tree_at net i)))) (value_of known i)
 
 pub node_values : CellNet → List Bool → ℕ → List Bool
 node_values net known zero = []
@@ -119,7 +119,7 @@ length-node_values net known zero = refl
 length-node_values net known (suc i) =
     let a = length-append (node_values net known i) (block net known i) in
     let b = length-node_values net known i in
-    let c = length-replicate (suc (length (fans (served net i)))) (value_of known i) in
+    let c = length-replicate (suc (length (fans (tree_at net i)))) (value_of known i) in
     let d = number-next net i in
     omega (arith, a, b, c, d)
 
@@ -139,18 +139,8 @@ node-value net known (suc n) i w l low high =
           let high_n : w < number net (suc n) = subst (λ (j : ℕ). w < number net (suc j)) same high in
           let size = number-next net n in
           get_or-append_right (node_values net known n) (block net known n) (number net n) w false many low_n
-          ∙ (get_or-replicate (suc (length (fans (served net n)))) (w - number net n) (value_of known n) false (omega (arith, size, low_n, high_n))
+          ∙ (get_or-replicate (suc (length (fans (tree_at net n)))) (w - number net n) (value_of known n) false (omega (arith, size, low_n, high_n))
           ∙ ap (value_of known) (sym same))
-    ]
-
--- which cell's node or fan a number is of
-pub block-of : (net : CellNet) (n w : ℕ) → w < number net n → (i : ℕ) × (i < n) × (number net i ≤ w) × (w < number net (suc i))
-unfolding nodes_before
-block-of net zero w l = absurd (omega arith)
-block-of net (suc n) w l =
-    elim (cases_lt w (number net n)) [
-      | inl m ↦ let (i, a, b, c) = block-of net n w m in (i, (omega arith), b, c)
-      | inr m ↦ (n, (omega arith), m, l)
     ]
 
 -- blocks don't overlap

@@ -3,7 +3,6 @@ use Rattle.std.proofs.Common.{◌≡◌, ℕ, ◌+◌, ◌<◌, ◌≤◌, false
 use Rattle.std.specs.List.{All, fold, range_with_len}
 use Rattle.std.proofs.lemmas.List.{at_drop_more, at_drop_all}
 use Rattle.std.proofs.lemmas.List.Elements.{All-from_recursion, All-same}
-use Rattle.bx_logic.specs.declared.op.Op.{Op}
 use Rattle.bx_logic.specs.declared.driver.Driver.{Driver}
 use Rattle.bx_logic.specs.Nets.{Netlist, IsNet, arguments_of, driver_at}
 use Rattle.bx_logic.proofs.Valuations.{net-reads_within}
@@ -12,21 +11,8 @@ use Rattle.bx_map.specs.declared.cell.Cell.TheVariants as cell
 use Rattle.bx_map.specs.declared.cell.Value.{Value}
 use Rattle.bx_map.specs.declared.cell.Value.TheVariants.{Constant}
 use Rattle.bx_map.specs.Walks.{walk}
-use Rattle.bx_map.specs.Folds.{Folded, folded, single, chained, gate_folded, fold_value, driver_folded, Folding, fold_state, net_folded, before_folding, folding}
+use Rattle.bx_map.specs.Folds.{Fold, fold_of, fold_value, driver_fold, Folding, fold_state, net_fold, before_folding, folding}
 use Rattle.bx_map.proofs.Walking.{arguments-within}
-
--- a gate of one argument, and one of more
-pub gate-single : (op : Op) (cells : List Cell) (values : List Value) (args : List ℕ) → length args ≡ 1 →
-    gate_folded op cells (map (fold_value values) args) ≡ single op cells (fold_value values (get_or args 0 0))
-gate-single op cells values [] e = absurd (omega arith)
-gate-single op cells values (a ∷ []) e = refl
-gate-single op cells values (a ∷ b ∷ rest) e = absurd (omega arith)
-
-pub gate-chained : (op : Op) (cells : List Cell) (values : List Value) (args : List ℕ) → 0 < length args → (length args ≡ 1 → ⊥) →
-    gate_folded op cells (map (fold_value values) args) ≡ chained op (folded (fold_value values (get_or args 0 0)) cells) (map (fold_value values) (drop 1 args))
-gate-chained op cells values [] l ne = absurd (omega arith)
-gate-chained op cells values (a ∷ []) l ne = absurd (ne refl)
-gate-chained op cells values (a ∷ b ∷ rest) l ne = refl
 
 module _ (net : Netlist) (h : IsNet net) where
   pub arguments-valued : (values : List Value) (d : Driver) (n : ℕ) → length values ≡ length net.drivers → d ≡ driver_at net.drivers n → All (λ m. m < length values) (arguments_of d)
@@ -36,25 +22,25 @@ module _ (net : Netlist) (h : IsNet net) where
       (All-from_recursion (λ m. m < length net.drivers) (arguments_of (driver_at net.drivers n)) (arguments-within net.drivers (net-reads_within net h) n)))
 
   pub folding-begin : (values : List Value) (cells : List Cell) (order : List ℕ) → values ≡ replicate (length net.drivers) (Constant false) →
-      cells ≡ map cell.Input (range_with_len 0 (length net.inputs)) → order ≡ walk net → fold (net_folded net.drivers) (fold_state values cells) order ≡ folding net
+      cells ≡ map cell.Input (range_with_len 0 (length net.inputs)) → order ≡ walk net → fold (net_fold net.drivers) (fold_state values cells) order ≡ folding net
   unfolding folding
   folding-begin values cells order e f g =
-      ap (λ (vs : List Value). fold (net_folded net.drivers) (fold_state vs cells) order) e
-      ∙ (ap (λ (cs : List Cell). fold (net_folded net.drivers) (fold_state (replicate (length net.drivers) (Constant false)) cs) order) f
-      ∙ ap (λ (ns : List ℕ). fold (net_folded net.drivers) (before_folding net) ns) g)
+      ap (λ (vs : List Value). fold (net_fold net.drivers) (fold_state vs cells) order) e
+      ∙ (ap (λ (cs : List Cell). fold (net_fold net.drivers) (fold_state (replicate (length net.drivers) (Constant false)) cs) order) f
+      ∙ ap (λ (ns : List ℕ). fold (net_fold net.drivers) (before_folding net) ns) g)
 
   pub folding-next : (values later : List Value) (cells made : List Cell) (order : List ℕ) (i n : ℕ) (v : Value) (d : Driver) → i < length order → n ≡ get_or order i 0 →
-      d ≡ driver_at net.drivers n → folded v made ≡ driver_folded values cells d → later ≡ set values n v →
-      fold (net_folded net.drivers) (fold_state values cells) (drop i order) ≡ folding net → fold (net_folded net.drivers) (fold_state later made) (drop (i + 1) order) ≡ folding net
+      d ≡ driver_at net.drivers n → fold_of v made ≡ driver_fold values cells d → later ≡ set values n v →
+      fold (net_fold net.drivers) (fold_state values cells) (drop i order) ≡ folding net → fold (net_fold net.drivers) (fold_state later made) (drop (i + 1) order) ≡ folding net
   folding-next values later cells made order i n v d l is is_d is_v is_later before =
       let m : ℕ = get_or order i 0 in
-      let step : fold_state later made ≡ net_folded net.drivers (fold_state values cells) m =
+      let step : fold_state later made ≡ net_fold net.drivers (fold_state values cells) m =
       ap (λ (vs : List Value). fold_state vs made) is_later
-      ∙ (ap (λ (f : Folded). fold_state (set values n f.value) f.cells) (is_v ∙ ap (driver_folded values cells) is_d)
-      ∙ ap (λ (k : ℕ). net_folded net.drivers (fold_state values cells) k) is) in
-      ap (λ (f : Folding). fold (net_folded net.drivers) f (drop (i + 1) order)) step
-      ∙ (sym (at_drop_more (λ (ns : List ℕ). fold (net_folded net.drivers) (fold_state values cells) ns) order i 0 l) ∙ before)
+      ∙ (ap (λ (f : Fold). fold_state (set values n f.value) f.cells) (is_v ∙ ap (driver_fold values cells) is_d)
+      ∙ ap (λ (k : ℕ). net_fold net.drivers (fold_state values cells) k) is) in
+      ap (λ (f : Folding). fold (net_fold net.drivers) f (drop (i + 1) order)) step
+      ∙ (sym (at_drop_more (λ (ns : List ℕ). fold (net_fold net.drivers) (fold_state values cells) ns) order i 0 l) ∙ before)
 
   pub folding-end : (values : List Value) (cells : List Cell) (order : List ℕ) (i : ℕ) → length order ≤ i →
-      fold (net_folded net.drivers) (fold_state values cells) (drop i order) ≡ folding net → fold_state values cells ≡ folding net
-  folding-end values cells order i l e = sym (at_drop_all (λ (ns : List ℕ). fold (net_folded net.drivers) (fold_state values cells) ns) order i l) ∙ e
+      fold (net_fold net.drivers) (fold_state values cells) (drop i order) ≡ folding net → fold_state values cells ≡ folding net
+  folding-end values cells order i l e = sym (at_drop_all (λ (ns : List ℕ). fold (net_fold net.drivers) (fold_state values cells) ns) order i l) ∙ e

@@ -18,7 +18,7 @@ use Rattle.bx_map.specs.declared.cell.Value.{Value}
 use Rattle.bx_map.specs.declared.cell.Value.TheVariants.{Constant, Signal}
 use Rattle.bx_map.specs.Cells.{cell_at, kind_of, operands_of, ReadsEarlier}
 use Rattle.bx_map.specs.Walks.{walk}
-use Rattle.bx_map.specs.Folds.{Folded, folded, with_cell, inverted, gate_kind, with_constant, combined, plain, single, chained, gate_folded, fold_value, driver_folded, Folding, net_folded, before_folding, folding}
+use Rattle.bx_map.specs.Folds.{Fold, fold_of, with_cell, inverse_of, gate_kind, with_constant, combination_of, plain_op, single_fold, chain_of, gate_fold, fold_value, driver_fold, Folding, net_fold, before_folding, folding}
 
 -- cells of which the first so many are the inputs
 pub record AreMade (inputs : ℕ) (cells : List Cell) : Type 0 where
@@ -39,7 +39,7 @@ pub within-more : (n m : ℕ) (v : Value) → n ≤ m → IsWithin n v → IsWit
 within-more n m (Constant b) l h = tt
 within-more n m (Signal a) l h = omega (arith, h)
 
-pub record IsMadeFrom (inputs : ℕ) (cells : List Cell) (f : Folded) : Type 0 where
+pub record IsMadeFrom (inputs : ℕ) (cells : List Cell) (f : Fold) : Type 0 where
   pub made : AreMade inputs f.cells
   pub within : IsWithin (length f.cells) f.value
   pub longer : length cells ≤ length f.cells
@@ -58,8 +58,9 @@ cell-new : (cells : List Cell) (c : Cell) → cell_at (cells ++ c ∷ []) (lengt
 cell-new [] c = refl
 cell-new (d ∷ cells) c = cell-new cells c
 
-cell-past : (cells : List Cell) (c : Cell) (j : ℕ) → length cells < j → cell_at (cells ++ c ∷ []) j ≡ cell.Input 0
-cell-past cells c j l = get_or_past (cells ++ c ∷ []) j (cell.Input 0) (omega (arith, length-append cells (c ∷ [])))
+-- where there is no cell, none is read
+pub reads-past : (cells : List Cell) (j : ℕ) → length cells ≤ j → AllByRecursion (λ a. a < j) (operands_of (cell_at cells j))
+reads-past cells j l = subst (λ (d : Cell). AllByRecursion (λ a. a < j) (operands_of d)) (sym (get_or_past cells j (cell.Input 0) l)) tt
 
 each-with : (P : ℕ → Cell → Type 0) (cells : List Cell) (c : Cell) → ((j : ℕ) → j < length cells → P j (cell_at cells j)) → P (length cells) c →
     (j : ℕ) → j < length (cells ++ c ∷ []) → P j (cell_at (cells ++ c ∷ []) j)
@@ -75,7 +76,7 @@ pub made-with : (inputs : ℕ) (cells : List Cell) (c : Cell) → AreMade inputs
 made-with inputs cells c h f = record {
   reads = λ j. elim (cases_lt j (length (cells ++ c ∷ []))) [
     | inl l ↦ each-with (λ k d. AllByRecursion (λ a. a < k) (operands_of d)) cells c (λ k m. h.reads k) f.reads j l
-    | inr l ↦ subst (λ (d : Cell). AllByRecursion (λ a. a < j) (operands_of d)) (sym (get_or_past (cells ++ c ∷ []) j (cell.Input 0) l)) tt
+    | inr l ↦ reads-past (cells ++ c ∷ []) j l
   ];
   arity = each-with (λ k d. length (operands_of d) ≡ operands (kind_of d)) cells c h.arity f.arity;
   slot = each-with (λ k d. slots (kind_of d) ≡ 1) cells c h.slot f.slot;
@@ -92,92 +93,68 @@ from-with inputs cells c h f = record {
   longer = omega (arith, length-append cells (c ∷ []));
 }
 
-from-same : (inputs : ℕ) (cells : List Cell) (v : Value) → AreMade inputs cells → IsWithin (length cells) v → IsMadeFrom inputs cells (folded v cells)
+from-same : (inputs : ℕ) (cells : List Cell) (v : Value) → AreMade inputs cells → IsWithin (length cells) v → IsMadeFrom inputs cells (fold_of v cells)
 from-same inputs cells v h w = record { made = h; within = w; longer = omega arith }
 
-from-inverted : (inputs : ℕ) (cells : List Cell) (v : Value) → AreMade inputs cells → IsWithin (length cells) v → IsMadeFrom inputs cells (inverted cells v)
-from-inverted inputs cells (Constant b) h w = from-same inputs cells (Constant _) h tt
-from-inverted inputs cells (Signal a) h w = from-with inputs cells (cell.Not a) h (record { reads = (w, tt); arity = refl; slot = refl; no_input = λ port e. cc })
+from-inverse_of : (inputs : ℕ) (cells : List Cell) (v : Value) → AreMade inputs cells → IsWithin (length cells) v → IsMadeFrom inputs cells (inverse_of cells v)
+from-inverse_of inputs cells (Constant b) h w = from-same inputs cells (Constant _) h tt
+from-inverse_of inputs cells (Signal a) h w = from-with inputs cells (cell.Not a) h (record { reads = (w, tt); arity = refl; slot = refl; no_input = λ port e. cc })
 
 from-constant : (inputs : ℕ) (op : Op) (b : Bool) (cells : List Cell) (v : Value) → AreMade inputs cells → IsWithin (length cells) v → IsMadeFrom inputs cells (with_constant op b cells v)
 from-constant inputs And false cells v h w = from-same inputs cells (Constant false) h tt
 from-constant inputs And true cells v h w = from-same inputs cells v h w
 from-constant inputs Nand false cells v h w = from-same inputs cells (Constant true) h tt
-from-constant inputs Nand true cells v h w = from-inverted inputs cells v h w
 from-constant inputs Or true cells v h w = from-same inputs cells (Constant true) h tt
 from-constant inputs Or false cells v h w = from-same inputs cells v h w
 from-constant inputs Nor true cells v h w = from-same inputs cells (Constant false) h tt
-from-constant inputs Nor false cells v h w = from-inverted inputs cells v h w
 from-constant inputs Xor false cells v h w = from-same inputs cells v h w
-from-constant inputs Xor true cells v h w = from-inverted inputs cells v h w
 from-constant inputs Xnor true cells v h w = from-same inputs cells v h w
-from-constant inputs Xnor false cells v h w = from-inverted inputs cells v h w
 from-constant inputs Buf true cells v h w = from-same inputs cells v h w
 from-constant inputs Buf false cells v h w = from-same inputs cells v h w
-from-constant inputs Not true cells v h w = from-inverted inputs cells v h w
-from-constant inputs Not false cells v h w = from-inverted inputs cells v h w
+from-constant inputs op b cells v h w = from-inverse_of inputs cells v h w
 
 gate-operands : (op : Op) → 2 ≡ operands (gate_kind op)
 gate-operands Buf = refl
-gate-operands Not = refl
-gate-operands And = refl
-gate-operands Or = refl
-gate-operands Nand = refl
-gate-operands Nor = refl
-gate-operands Xor = refl
-gate-operands Xnor = refl
+gate-operands op = refl
 
 gate-slots : (op : Op) → slots (gate_kind op) ≡ 1
 gate-slots Buf = refl
-gate-slots Not = refl
-gate-slots And = refl
-gate-slots Or = refl
-gate-slots Nand = refl
-gate-slots Nor = refl
-gate-slots Xor = refl
-gate-slots Xnor = refl
+gate-slots op = refl
 
-from-combined : (inputs : ℕ) (op : Op) (cells : List Cell) (v w : Value) → AreMade inputs cells → IsWithin (length cells) v → IsWithin (length cells) w →
-    IsMadeFrom inputs cells (combined op cells v w)
-from-combined inputs op cells (Signal a) (Signal b) h x y =
+from-combination_of : (inputs : ℕ) (op : Op) (cells : List Cell) (v w : Value) → AreMade inputs cells → IsWithin (length cells) v → IsWithin (length cells) w →
+    IsMadeFrom inputs cells (combination_of op cells v w)
+from-combination_of inputs op cells (Signal a) (Signal b) h x y =
     from-with inputs cells (cell.Gate (gate_kind op) a b) h (record { reads = (x, (y, tt)); arity = gate-operands op; slot = gate-slots op; no_input = λ port e. cc })
-from-combined inputs op cells (Signal a) (Constant b) h x y = from-constant inputs op b cells (Signal a) h x
-from-combined inputs op cells (Constant a) (Signal b) h x y = from-constant inputs op a cells (Signal b) h y
-from-combined inputs op cells (Constant a) (Constant b) h x y = from-constant inputs op a cells (Constant b) h y
+from-combination_of inputs op cells (Signal a) (Constant b) h x y = from-constant inputs op b cells (Signal a) h x
+from-combination_of inputs op cells (Constant a) (Signal b) h x y = from-constant inputs op a cells (Signal b) h y
+from-combination_of inputs op cells (Constant a) (Constant b) h x y = from-constant inputs op a cells (Constant b) h y
 
-from-single : (inputs : ℕ) (op : Op) (cells : List Cell) (v : Value) → AreMade inputs cells → IsWithin (length cells) v → IsMadeFrom inputs cells (single op cells v)
-from-single inputs Not cells v h w = from-inverted inputs cells v h w
-from-single inputs Nand cells v h w = from-inverted inputs cells v h w
-from-single inputs Nor cells v h w = from-inverted inputs cells v h w
-from-single inputs Xnor cells v h w = from-inverted inputs cells v h w
-from-single inputs Buf cells v h w = from-same inputs cells v h w
-from-single inputs And cells v h w = from-same inputs cells v h w
-from-single inputs Or cells v h w = from-same inputs cells v h w
-from-single inputs Xor cells v h w = from-same inputs cells v h w
+from-single_fold : (inputs : ℕ) (op : Op) (cells : List Cell) (v : Value) → AreMade inputs cells → IsWithin (length cells) v → IsMadeFrom inputs cells (single_fold op cells v)
+from-single_fold inputs Not cells v h w = from-inverse_of inputs cells v h w
+from-single_fold inputs Nand cells v h w = from-inverse_of inputs cells v h w
+from-single_fold inputs Nor cells v h w = from-inverse_of inputs cells v h w
+from-single_fold inputs Xnor cells v h w = from-inverse_of inputs cells v h w
+from-single_fold inputs op cells v h w = from-same inputs cells v h w
 
-all-within_more : (n m : ℕ) (vs : List Value) → n ≤ m → AllByRecursion (IsWithin n) vs → AllByRecursion (IsWithin m) vs
-all-within_more n m [] l a = tt
-all-within_more n m (v ∷ vs) l a = (within-more n m v l a.0, all-within_more n m vs l a.1)
-
-from-longer : (inputs : ℕ) (cells : List Cell) (f g : Folded) → IsMadeFrom inputs cells f → IsMadeFrom inputs f.cells g → IsMadeFrom inputs cells g
+from-longer : (inputs : ℕ) (cells : List Cell) (f g : Fold) → IsMadeFrom inputs cells f → IsMadeFrom inputs f.cells g → IsMadeFrom inputs cells g
 from-longer inputs cells f g a b = record { made = b.made; within = b.within; longer = omega (arith, a.longer, b.longer) }
 
-from-chained : (inputs : ℕ) (op : Op) (cells : List Cell) (f : Folded) (vs : List Value) → IsMadeFrom inputs cells f → AllByRecursion (IsWithin (length cells)) vs →
-    IsMadeFrom inputs cells (chained op f vs)
-from-chained inputs op cells f [] h a = h
-from-chained inputs op cells f (v ∷ []) h a =
-    from-longer inputs cells f (combined op f.cells f.value v) h
-    (from-combined inputs op f.cells f.value v h.made h.within (within-more (length cells) (length f.cells) v h.longer a.0))
-from-chained inputs op cells f (v ∷ w ∷ vs) h a =
-    from-chained inputs op cells (combined (plain op) f.cells f.value v) (w ∷ vs)
-    (from-longer inputs cells f (combined (plain op) f.cells f.value v) h
-    (from-combined inputs (plain op) f.cells f.value v h.made h.within (within-more (length cells) (length f.cells) v h.longer a.0))) a.1
+from-chain_of : (inputs : ℕ) (op : Op) (cells : List Cell) (f : Fold) (vs : List Value) → IsMadeFrom inputs cells f → AllByRecursion (IsWithin (length cells)) vs →
+    IsMadeFrom inputs cells (chain_of op f vs)
+from-chain_of inputs op cells f [] h a = h
+from-chain_of inputs op cells f (v ∷ []) h a =
+    from-longer inputs cells f (combination_of op f.cells f.value v) h
+    (from-combination_of inputs op f.cells f.value v h.made h.within (within-more (length cells) (length f.cells) v h.longer a.0))
+from-chain_of inputs op cells f (v ∷ w ∷ vs) h a =
+    from-chain_of inputs op cells (combination_of (plain_op op) f.cells f.value v) (w ∷ vs)
+    (from-longer inputs cells f (combination_of (plain_op op) f.cells f.value v) h
+    (from-combination_of inputs (plain_op op) f.cells f.value v h.made h.within (within-more (length cells) (length f.cells) v h.longer a.0))) a.1
 
 from-gate : (inputs : ℕ) (op : Op) (cells : List Cell) (vs : List Value) → AreMade inputs cells → AllByRecursion (IsWithin (length cells)) vs →
-    IsMadeFrom inputs cells (gate_folded op cells vs)
+    IsMadeFrom inputs cells (gate_fold op cells vs)
 from-gate inputs op cells [] h a = from-same inputs cells (Constant false) h tt
-from-gate inputs op cells (v ∷ []) h a = from-single inputs op cells v h a.0
-from-gate inputs op cells (v ∷ w ∷ vs) h a = from-chained inputs op cells (folded v cells) (w ∷ vs) (from-same inputs cells v h a.0) a.1
+from-gate inputs op cells (v ∷ []) h a = from-single_fold inputs op cells v h a.0
+from-gate inputs op cells (v ∷ w ∷ vs) h a = from-chain_of inputs op cells (fold_of v cells) (w ∷ vs) (from-same inputs cells v h a.0) a.1
 
 -- each net's value is by one of the cells
 abbrev pub AllWithin : ℕ → List Value → Type 0
@@ -188,7 +165,7 @@ map-within n values [] h = tt
 map-within n values (m ∷ ms) h = (h m, map-within n values ms h)
 
 from-driver : (inputs nets : ℕ) (values : List Value) (cells : List Cell) (d : Driver) → IsDriver inputs nets d → AreMade inputs cells → AllWithin (length cells) values →
-    IsMadeFrom inputs cells (driver_folded values cells d)
+    IsMadeFrom inputs cells (driver_fold values cells d)
 from-driver inputs nets values cells (driver.Input i) is h w = from-same inputs cells (Signal i) h (omega (arith, is, h.inputs_first))
 from-driver inputs nets values cells (driver.Constant b) is h w = from-same inputs cells (Constant b) h tt
 from-driver inputs nets values cells (driver.Gate op args) is h w = from-gate inputs op cells (map (fold_value values) args) h (map-within (length cells) values args w)
@@ -209,18 +186,18 @@ within-set n m i k values v l h w =
       ]
     ]
 
-pub folding-step : (inputs nets : ℕ) (drivers : List Driver) (f : Folding) (n : ℕ) → IsDriver inputs nets (driver_at drivers n) → IsFoldingOf inputs f → IsFoldingOf inputs (net_folded drivers f n)
+pub folding-step : (inputs nets : ℕ) (drivers : List Driver) (f : Folding) (n : ℕ) → IsDriver inputs nets (driver_at drivers n) → IsFoldingOf inputs f → IsFoldingOf inputs (net_fold drivers f n)
 folding-step inputs nets drivers f n is h =
     let new = from-driver inputs nets f.values f.cells (driver_at drivers n) is h.made h.within in
     record {
       made = new.made;
-      within = λ k. within-set (length f.cells) (length (driver_folded f.values f.cells (driver_at drivers n)).cells) n k f.values (driver_folded f.values f.cells (driver_at drivers n)).value new.longer h.within new.within;
+      within = λ k. within-set (length f.cells) (length (driver_fold f.values f.cells (driver_at drivers n)).cells) n k f.values (driver_fold f.values f.cells (driver_at drivers n)).value new.longer h.within new.within;
     }
 
 pub folding-all : (inputs nets : ℕ) (drivers : List Driver) → ((n : ℕ) → IsDriver inputs nets (driver_at drivers n)) → (f : Folding) (order : List ℕ) → IsFoldingOf inputs f →
-    IsFoldingOf inputs (fold (net_folded drivers) f order)
+    IsFoldingOf inputs (fold (net_fold drivers) f order)
 folding-all inputs nets drivers is f [] h = h
-folding-all inputs nets drivers is f (n ∷ ns) h = folding-all inputs nets drivers is (net_folded drivers f n) ns (folding-step inputs nets drivers f n (is n) h)
+folding-all inputs nets drivers is f (n ∷ ns) h = folding-all inputs nets drivers is (net_fold drivers f n) ns (folding-step inputs nets drivers f n (is n) h)
 
 input-cell : (n j : ℕ) → j < n → cell_at (map cell.Input (range_with_len 0 n)) j ≡ cell.Input j
 input-cell n j l = get_or-map-range_with_len cell.Input 0 n j j (cell.Input 0) l (omega arith)
@@ -234,7 +211,7 @@ inputs-made n =
     record {
       reads = λ j. elim (cases_lt j n) [
         | inl l ↦ subst (λ (d : Cell). AllByRecursion (λ a. a < j) (operands_of d)) (sym (input-cell n j l)) tt
-        | inr l ↦ subst (λ (d : Cell). AllByRecursion (λ a. a < j) (operands_of d)) (sym (get_or_past (map cell.Input (range_with_len 0 n)) j (cell.Input 0) (omega (arith, many)))) tt
+        | inr l ↦ reads-past (map cell.Input (range_with_len 0 n)) j (omega (arith, many))
       ];
       arity = λ j l. subst (λ (d : Cell). length (operands_of d) ≡ operands (kind_of d)) (sym (input-cell n j (omega (arith, many)))) refl;
       slot = λ j l. subst (λ (d : Cell). slots (kind_of d) ≡ 1) (sym (input-cell n j (omega (arith, many)))) refl;

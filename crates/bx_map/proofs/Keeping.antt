@@ -6,12 +6,13 @@ use Rattle.std.proofs.lemmas.Bool.{cases_eq, cases_lt, cases_Bool, eq-eqb, eqb-t
 use Rattle.std.proofs.lemmas.List.{length-append, get_or_append_left, get_or-append_right}
 use Rattle.std.proofs.lemmas.List.Folds.{list_any-append}
 use Rattle.std.proofs.lemmas.List.Sums.{sum_by-cons}
+use Rattle.bx_logic.proofs.Lists.{all-append, all-weaker}
+use Rattle.bx_network.specs.Networks.{one_if}
 use Rattle.bx_map.specs.declared.cell.Cell.{Cell}
 use Rattle.bx_map.specs.Cells.{cell_at, operands_of, ReadsEarlier}
 use Rattle.bx_map.specs.Walks.{has}
-use Rattle.bx_map.specs.Drops.{staying, rank}
-use Rattle.bx_map.proofs.Tallies.{one_if, tally, tally-append}
-use Rattle.bx_map.proofs.Numbering.{all-append, all-weaker}
+use Rattle.bx_map.specs.Drops.{stay_before, rank}
+use Rattle.bx_map.proofs.Tallies.{tally, tally-append}
 
 abbrev pub Has : List ℕ → ℕ → Type 0
 Has xs n = has xs n ≡ true
@@ -69,61 +70,61 @@ has-found (x ∷ xs) n h =
 
 -- what stays of one cell more
 
-pub staying-wants : (cells : List Cell) (i : ℕ) (wanted : List ℕ) → Has wanted i →
-    staying cells (suc i) wanted ≡ staying cells i (operands_of (cell_at cells i) ++ wanted) ++ i ∷ []
-unfolding staying
-staying-wants cells i wanted h =
-    cond-true (has wanted i) (staying cells i (operands_of (cell_at cells i) ++ wanted) ++ i ∷ []) (staying cells i wanted) h
+pub stay_before-wants : (cells : List Cell) (i : ℕ) (wanted : List ℕ) → Has wanted i →
+    stay_before cells (suc i) wanted ≡ stay_before cells i (operands_of (cell_at cells i) ++ wanted) ++ i ∷ []
+unfolding stay_before
+stay_before-wants cells i wanted h =
+    cond-true (has wanted i) (stay_before cells i (operands_of (cell_at cells i) ++ wanted) ++ i ∷ []) (stay_before cells i wanted) h
 
-pub staying-lacks : (cells : List Cell) (i : ℕ) (wanted : List ℕ) → has wanted i ≡ false → staying cells (suc i) wanted ≡ staying cells i wanted
-unfolding staying
-staying-lacks cells i wanted h =
-    cond-false (has wanted i) (staying cells i (operands_of (cell_at cells i) ++ wanted) ++ i ∷ []) (staying cells i wanted) h
+pub stay_before-lacks : (cells : List Cell) (i : ℕ) (wanted : List ℕ) → has wanted i ≡ false → stay_before cells (suc i) wanted ≡ stay_before cells i wanted
+unfolding stay_before
+stay_before-lacks cells i wanted h =
+    cond-false (has wanted i) (stay_before cells i (operands_of (cell_at cells i) ++ wanted) ++ i ∷ []) (stay_before cells i wanted) h
 
 -- each is greater than those before it
 pub data Rising : List ℕ → Type 0 where
   none : Rising []
   more : (xs : List ℕ) (n : ℕ) → AllByRecursion (λ x. x < n) xs → Rising xs → Rising (xs ++ n ∷ [])
 
-pub staying-within : (cells : List Cell) (n : ℕ) (wanted : List ℕ) → AllByRecursion (λ i. i < n) (staying cells n wanted)
-unfolding staying
-staying-within cells zero wanted = tt
-staying-within cells (suc i) wanted =
+pub stay_before-within : (cells : List Cell) (n : ℕ) (wanted : List ℕ) → AllByRecursion (λ i. i < n) (stay_before cells n wanted)
+unfolding stay_before
+stay_before-within cells zero wanted = tt
+stay_before-within cells (suc i) wanted =
     elim (cases_Bool (has wanted i)) [
       | inl wants ↦
           let later : List ℕ = operands_of (cell_at cells i) ++ wanted in
-          subst (AllByRecursion (λ j. j < suc i)) (sym (staying-wants cells i wanted wants))
-          (all-append (λ j. j < suc i) (staying cells i later) (i ∷ [])
-          (all-weaker (λ j. j < i) (λ j. j < suc i) (λ j l. omega arith) (staying cells i later) (staying-within cells i later)) (omega arith, tt))
+          subst (AllByRecursion (λ j. j < suc i)) (sym (stay_before-wants cells i wanted wants))
+          (all-append (λ j. j < suc i) (stay_before cells i later) (i ∷ [])
+          (all-weaker (λ j. j < i) (λ j. j < suc i) (λ j l. omega arith) (stay_before cells i later) (stay_before-within cells i later)) (omega arith, tt))
       | inr lacks ↦
-          subst (AllByRecursion (λ j. j < suc i)) (sym (staying-lacks cells i wanted lacks))
-          (all-weaker (λ j. j < i) (λ j. j < suc i) (λ j l. omega arith) (staying cells i wanted) (staying-within cells i wanted))
+          subst (AllByRecursion (λ j. j < suc i)) (sym (stay_before-lacks cells i wanted lacks))
+          (all-weaker (λ j. j < i) (λ j. j < suc i) (λ j l. omega arith) (stay_before cells i wanted) (stay_before-within cells i wanted))
     ]
 
-pub staying-rises : (cells : List Cell) (n : ℕ) (wanted : List ℕ) → Rising (staying cells n wanted)
-unfolding staying
-staying-rises cells zero wanted = none
-staying-rises cells (suc i) wanted =
+pub stay_before-rises : (cells : List Cell) (n : ℕ) (wanted : List ℕ) → Rising (stay_before cells n wanted)
+unfolding stay_before
+stay_before-rises cells zero wanted = none
+stay_before-rises cells (suc i) wanted =
     elim (cases_Bool (has wanted i)) [
       | inl wants ↦
           let later : List ℕ = operands_of (cell_at cells i) ++ wanted in
-          subst Rising (sym (staying-wants cells i wanted wants)) (more (staying cells i later) i (staying-within cells i later) (staying-rises cells i later))
-      | inr lacks ↦ subst Rising (sym (staying-lacks cells i wanted lacks)) (staying-rises cells i wanted)
+          subst Rising (sym (stay_before-wants cells i wanted wants)) (more (stay_before cells i later) i (stay_before-within cells i later) (stay_before-rises cells i later))
+      | inr lacks ↦ subst Rising (sym (stay_before-lacks cells i wanted lacks)) (stay_before-rises cells i wanted)
     ]
 
-pub wanted-stay : (cells : List Cell) (n : ℕ) (wanted : List ℕ) (i : ℕ) → i < n → Has wanted i → Has (staying cells n wanted) i
+pub wanted-stay : (cells : List Cell) (n : ℕ) (wanted : List ℕ) (i : ℕ) → i < n → Has wanted i → Has (stay_before cells n wanted) i
 wanted-stay cells zero wanted i l h = absurd (omega arith)
 wanted-stay cells (suc m) wanted i l h =
     elim (cases_Bool (has wanted m)) [
       | inl wants ↦
           let later : List ℕ = operands_of (cell_at cells m) ++ wanted in
-          subst (λ (xs : List ℕ). Has xs i) (sym (staying-wants cells m wanted wants))
+          subst (λ (xs : List ℕ). Has xs i) (sym (stay_before-wants cells m wanted wants))
           (elim (cases_eq i m) [
-            | inl e ↦ has-right (staying cells m later) (m ∷ []) i (subst (λ (j : ℕ). Has (m ∷ []) j) (sym e) (has-one m))
-            | inr ne ↦ has-left (staying cells m later) (m ∷ []) i (wanted-stay cells m later i (omega arith) (has-right (operands_of (cell_at cells m)) wanted i h))
+            | inl e ↦ has-right (stay_before cells m later) (m ∷ []) i (subst (λ (j : ℕ). Has (m ∷ []) j) (sym e) (has-one m))
+            | inr ne ↦ has-left (stay_before cells m later) (m ∷ []) i (wanted-stay cells m later i (omega arith) (has-right (operands_of (cell_at cells m)) wanted i h))
           ])
       | inr lacks ↦
-          subst (λ (xs : List ℕ). Has xs i) (sym (staying-lacks cells m wanted lacks))
+          subst (λ (xs : List ℕ). Has xs i) (sym (stay_before-lacks cells m wanted lacks))
           (wanted-stay cells m wanted i (elim (cases_eq i m) [
             | inl e ↦ absurd (let t : has wanted m ≡ true = subst (Has wanted) e h in cc)
             | inr ne ↦ omega arith
@@ -131,18 +132,18 @@ wanted-stay cells (suc m) wanted i l h =
     ]
 
 -- what one that stays reads, stays
-pub read-stay : (cells : List Cell) → ReadsEarlier cells → (n : ℕ) (wanted : List ℕ) (j a : ℕ) → Has (staying cells n wanted) j → Has (operands_of (cell_at cells j)) a →
-    Has (staying cells n wanted) a
-unfolding staying
+pub read-stay : (cells : List Cell) → ReadsEarlier cells → (n : ℕ) (wanted : List ℕ) (j a : ℕ) → Has (stay_before cells n wanted) j → Has (operands_of (cell_at cells j)) a →
+    Has (stay_before cells n wanted) a
+unfolding stay_before
 read-stay cells earlier zero wanted j a h r = absurd (cc)
 read-stay cells earlier (suc m) wanted j a h r =
     elim (cases_Bool (has wanted m)) [
       | inl wants ↦
           let later : List ℕ = operands_of (cell_at cells m) ++ wanted in
-          let is = staying-wants cells m wanted wants in
+          let is = stay_before-wants cells m wanted wants in
           subst (λ (xs : List ℕ). Has xs a) (sym is)
-          (has-left (staying cells m later) (m ∷ []) a
-          (elim (has-cases (staying cells m later) (m ∷ []) j (subst (λ (xs : List ℕ). Has xs j) is h)) [
+          (has-left (stay_before cells m later) (m ∷ []) a
+          (elim (has-cases (stay_before cells m later) (m ∷ []) j (subst (λ (xs : List ℕ). Has xs j) is h)) [
             | inl low ↦ read-stay cells earlier m later j a low r
             | inr top ↦
                 let e = has-one_same m j top in
@@ -150,7 +151,7 @@ read-stay cells earlier (suc m) wanted j a h r =
                 wanted-stay cells m later a (all-has (λ b. b < m) (operands_of (cell_at cells m)) a (earlier m) s) (has-left (operands_of (cell_at cells m)) wanted a s)
           ]))
       | inr lacks ↦
-          let is = staying-lacks cells m wanted lacks in
+          let is = stay_before-lacks cells m wanted lacks in
           subst (λ (xs : List ℕ). Has xs a) (sym is) (read-stay cells earlier m wanted j a (subst (λ (xs : List ℕ). Has xs j) is h) r)
     ]
 
@@ -161,15 +162,15 @@ readers-more : (cells : List Cell) (xs ys : List ℕ) (i : ℕ) → IsReadBy cel
 readers-more cells xs ys i (j, h, r) = (j, has-left xs ys j h, r)
 
 -- what stays is wanted, or read by one that stays
-pub stay-read : (cells : List Cell) (n : ℕ) (wanted : List ℕ) (i : ℕ) → Has (staying cells n wanted) i → Has wanted i ⊎ IsReadBy cells (staying cells n wanted) i
-unfolding staying
+pub stay-read : (cells : List Cell) (n : ℕ) (wanted : List ℕ) (i : ℕ) → Has (stay_before cells n wanted) i → Has wanted i ⊎ IsReadBy cells (stay_before cells n wanted) i
+unfolding stay_before
 stay-read cells zero wanted i h = absurd (cc)
 stay-read cells (suc m) wanted i h =
     elim (cases_Bool (has wanted m)) [
       | inl wants ↦
           let reads : List ℕ = operands_of (cell_at cells m) in
-          let below : List ℕ = staying cells m (reads ++ wanted) in
-          let is = staying-wants cells m wanted wants in
+          let below : List ℕ = stay_before cells m (reads ++ wanted) in
+          let is = stay_before-wants cells m wanted wants in
           subst (λ (xs : List ℕ). Has wanted i ⊎ IsReadBy cells xs i) (sym is)
           (elim (has-cases below (m ∷ []) i (subst (λ (xs : List ℕ). Has xs i) is h)) [
             | inr top ↦ inl (subst (Has wanted) (has-one_same m i top) wants)
@@ -182,7 +183,7 @@ stay-read cells (suc m) wanted i h =
             ]
           ])
       | inr lacks ↦
-          let is = staying-lacks cells m wanted lacks in
+          let is = stay_before-lacks cells m wanted lacks in
           subst (λ (xs : List ℕ). Has wanted i ⊎ IsReadBy cells xs i) (sym is) (stay-read cells m wanted i (subst (λ (xs : List ℕ). Has xs i) is h))
     ]
 

@@ -4,24 +4,21 @@ use Rattle.std.specs.List.{AllByRecursion, position, position_or_len}
 use Rattle.std.proofs.lemmas.Bool.{cases_Bool, ltb-false}
 use Rattle.std.proofs.lemmas.List.Sums.{fails_before_first}
 use Rattle.bx_logic.specs.Nets.{Netlist, IsNet, output_nets}
+use Rattle.bx_logic.proofs.Lists.{all-from_get_or}
 use Rattle.bx_network.specs.declared.node.Node.{Node}
 use Rattle.bx_network.specs.declared.node.Edge.{Edge}
-use Rattle.bx_network.specs.Networks.{IsNetwork}
+use Rattle.bx_network.specs.Networks.{network_of, IsNetwork}
 use Rattle.bx_map.specs.declared.cell.Value.{Value}
 use Rattle.bx_map.specs.declared.cell.Value.TheVariants.{Constant, Signal}
 use Rattle.bx_map.specs.Cells.{CellNet, AreCells}
 use Rattle.bx_map.specs.Folds.{folding}
-use Rattle.bx_map.specs.Drops.{dropped}
+use Rattle.bx_map.specs.Drops.{cone_of}
 use Rattle.bx_map.specs.FanOuts.{IsCellNet}
-use Rattle.bx_map.specs.Numbers.{numbered}
-use Rattle.bx_map.specs.Maps.{is_constant, signal_of, output_folds, first_constant, all_cells, mapped, node_count}
-use Rattle.bx_map.proofs.Networked.{numbered-is_network}
-use Rattle.bx_map.proofs.Dropping.{dropped-is_cell_net, dropped-ports_apart}
+use Rattle.bx_map.specs.Numbers.{numbering_of}
+use Rattle.bx_map.specs.Maps.{is_constant, signal_of, output_folds, first_constant, all_cells, mapping_of, node_count}
+use Rattle.bx_map.proofs.Networked.{numbering_of-is_network}
+use Rattle.bx_map.proofs.Dropping.{cone_of-is_cell_net}
 use Rattle.bx_map.proofs.Folding.{IsWithin, folding-is, map-within}
-
-pub all-from_get_or : {X : Type 0} (P : X → Type 0) (xs : List X) (d : X) → ((k : ℕ) → k < length xs → P (get_or xs k d)) → AllByRecursion P xs
-all-from_get_or P [] d h = tt
-all-from_get_or P (x ∷ xs) d h = (h 0 (omega arith), all-from_get_or P xs d (λ k l. h (suc k) (omega arith)))
 
 -- where no item passes, none does
 pub none-passes : {X : Type 0} (p : X → Bool) (xs : List X) (d : X) → position p xs ≡ None → AllByRecursion (λ x. p x ≡ false) xs
@@ -50,25 +47,24 @@ all_cells-are net h none =
       apart = λ i j port l m e g. f.made.ports i port l e ∙ sym (f.made.ports j port m g);
     }
 
-pub mapped-is_network : (net : Netlist) → IsNet net → first_constant net ≡ None → node_count net < 2147483648 → IsNetwork (mapped net)
-mapped-is_network net h none few =
-    let a = all_cells-are net h none in
-    numbered-is_network (dropped (all_cells net)) (dropped-is_cell_net (all_cells net) a) (dropped-ports_apart (all_cells net) a) few
+pub mapping_of-is_network : (net : Netlist) → IsNet net → first_constant net ≡ None → node_count net < 2147483648 → IsNetwork (mapping_of net)
+mapping_of-is_network net h none few =
+    numbering_of-is_network (cone_of (all_cells net)) (cone_of-is_cell_net (all_cells net) (all_cells-are net h none)) few
 
 -- the net in cells that the code numbers is one
-pub kept-is_cell_net : (net : Netlist) (cells : CellNet) → IsNet net → first_constant net ≡ None → cells ≡ dropped (all_cells net) → IsCellNet cells
-kept-is_cell_net net cells h none e = subst IsCellNet (sym e) (dropped-is_cell_net (all_cells net) (all_cells-are net h none))
+pub kept-is_cell_net : (net : Netlist) (cells : CellNet) → IsNet net → first_constant net ≡ None → cells ≡ cone_of (all_cells net) → IsCellNet cells
+kept-is_cell_net net cells h none e = subst IsCellNet (sym e) (cone_of-is_cell_net (all_cells net) (all_cells-are net h none))
 
 -- and its nodes and edges are a network
-pub kept-is_network : (net : Netlist) (cells : CellNet) (count most : ℕ) → IsNet net → first_constant net ≡ None → cells ≡ dropped (all_cells net) →
-    count ≡ length (numbered cells).nodes → count ≤ most → most ≤ 65536 → IsNetwork (numbered cells)
+pub kept-is_network : (net : Netlist) (cells : CellNet) (count most : ℕ) → IsNet net → first_constant net ≡ None → cells ≡ cone_of (all_cells net) →
+    count ≡ length (numbering_of cells).nodes → count ≤ most → most ≤ 65536 → IsNetwork (numbering_of cells)
 kept-is_network net cells count most is none e c l m =
-    let size = c ∙ ap (λ (n : CellNet). length (numbered n).nodes) e in
-    subst IsNetwork (ap numbered (sym e)) (mapped-is_network net is none (omega (arith, size)))
+    let size = c ∙ ap (λ (n : CellNet). length (numbering_of n).nodes) e in
+    subst IsNetwork (ap numbering_of (sym e)) (mapping_of-is_network net is none (omega (arith, size)))
 
 -- the nodes and edges that the code makes are those of the cells
-pub numbered-from : (cells fan_outs : CellNet) (nodes : List Node) (edges : List Edge) → fan_outs ≡ cells → nodes ≡ (numbered fan_outs).nodes → edges ≡ (numbered fan_outs).edges →
-    record { nodes = nodes; edges = edges } ≡ numbered cells
-numbered-from cells fan_outs nodes edges f g h =
-    let made : record { nodes = nodes; edges = edges } ≡ numbered fan_outs = ap₂ (λ (ns : List Node) (es : List Edge). record { nodes = ns; edges = es }) g h in
-    made ∙ ap numbered f
+pub numbering_of-from : (cells fan_outs : CellNet) (nodes : List Node) (edges : List Edge) → fan_outs ≡ cells → nodes ≡ (numbering_of fan_outs).nodes → edges ≡ (numbering_of fan_outs).edges →
+    network_of nodes edges ≡ numbering_of cells
+numbering_of-from cells fan_outs nodes edges f g h =
+    let made : network_of nodes edges ≡ numbering_of fan_outs = ap₂ network_of g h in
+    made ∙ ap numbering_of f

@@ -1,12 +1,12 @@
 -- Marks of the numbers of a list: one number more, and many.
-use Rattle.std.proofs.Common.{◌≡◌, ℕ, ◌<◌, ◌==◌, Bool, true, false, ◌||◌, List, [], ◌∷◌, ◌++◌, length, set, get_or, replicate, refl, sym, ◌∙◌, ap, subst, arith, inl, inr}
+use Rattle.std.proofs.Common.{◌≡◌, ℕ, ◌<◌, ◌==◌, Bool, true, false, ◌||◌, List, [], ◌∷◌, ◌++◌, length, set, get_or, refl, sym, ◌∙◌, ap, subst, arith, inl, inr}
 use Rattle.std.specs.List.{AllByRecursion}
 use Rattle.std.proofs.Math.Bool.{or-false, or-true}
 use Rattle.std.proofs.lemmas.Bool.{cases_eq, eq-eqb, ne_eqb}
-use Rattle.std.proofs.lemmas.List.{length-set, get_or-set_same, get_or-set_other, get_or-replicate, length-replicate}
+use Rattle.std.proofs.lemmas.List.{length-set, get_or-set_same, get_or-set_other}
 use Rattle.std.proofs.lemmas.List.Folds.{list_any-append}
 use Rattle.bx_map.specs.Walks.{has}
-use Rattle.bx_map.specs.Marks.{AreMarks, marked}
+use Rattle.bx_map.specs.Marks.{AreMarks, with_marks}
 
 or-middle : (a b c : Bool) → (a || (b || c)) ≡ ((b || a) || c)
 or-middle true true c = refl
@@ -28,23 +28,20 @@ set-at marks m n l =
       | inr ne ↦ get_or-set_other marks m n true false (λ e. ne (sym e)) ∙ sym (ap (λ (b : Bool). b || get_or marks n false) (ne_eqb m n ne))
     ]
 
-pub marked-length : (marks : List Bool) (xs : List ℕ) → length (marked marks xs) ≡ length marks
-marked-length marks [] = refl
-marked-length marks (x ∷ xs) = marked-length (set marks x true) xs ∙ length-set marks x true
+pub with_marks-length : (marks : List Bool) (xs : List ℕ) → length (with_marks marks xs) ≡ length marks
+with_marks-length marks [] = refl
+with_marks-length marks (x ∷ xs) = with_marks-length (set marks x true) xs ∙ length-set marks x true
 
 within-set : (marks : List Bool) (m : ℕ) (xs : List ℕ) → AllByRecursion (λ a. a < length marks) xs → AllByRecursion (λ a. a < length (set marks m true)) xs
 within-set marks m [] a = tt
 within-set marks m (x ∷ xs) a = let e = length-set marks m true in (omega (arith, a.0, e), within-set marks m xs a.1)
 
 -- many numbers more
-pub marked-at : (marks : List Bool) (xs : List ℕ) (n : ℕ) → AllByRecursion (λ a. a < length marks) xs → get_or (marked marks xs) n false ≡ (has xs n || get_or marks n false)
-marked-at marks [] n a = refl
-marked-at marks (x ∷ xs) n a =
-    marked-at (set marks x true) xs n (within-set marks x xs a.1)
+pub with_marks-at : (marks : List Bool) (xs : List ℕ) (n : ℕ) → AllByRecursion (λ a. a < length marks) xs → get_or (with_marks marks xs) n false ≡ (has xs n || get_or marks n false)
+with_marks-at marks [] n a = refl
+with_marks-at marks (x ∷ xs) n a =
+    with_marks-at (set marks x true) xs n (within-set marks x xs a.1)
     ∙ (ap (λ (b : Bool). has xs n || b) (set-at marks x n a.0) ∙ or-middle (has xs n) (x == n) (get_or marks n false))
-
-pub marks-none : (n : ℕ) → AreMarks n [] (replicate n false)
-marks-none n = record { whole = length-replicate n false; each = λ i l. get_or-replicate n i false false l }
 
 pub marks-push : (n m : ℕ) (xs : List ℕ) (marks : List Bool) → m < n → AreMarks n xs marks → AreMarks n (xs ++ m ∷ []) (set marks m true)
 marks-push n m xs marks l h = record {

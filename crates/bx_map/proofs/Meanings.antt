@@ -13,12 +13,12 @@ use Rattle.bx_logic.specs.Nets.{arguments_of, driver_at, HasArity, IsDriver, Net
 use Rattle.bx_logic.specs.Op.{op_value}
 use Rattle.bx_logic.specs.Values.{value_of, driver_value, IsNetValuation}
 use Rattle.bx_logic.proofs.Valuations.{driver-at, driver_value-local}
+use Rattle.bx_logic.proofs.Lists.{all-weaker}
 use Rattle.bx_map.specs.declared.cell.Cell.{Cell}
 use Rattle.bx_map.specs.declared.cell.Value.{Value}
 use Rattle.bx_map.specs.declared.cell.Value.TheVariants.{Constant}
 use Rattle.bx_map.specs.Walks.{walk}
-use Rattle.bx_map.specs.Folds.{Folded, fold_value, driver_folded, Folding, net_folded, before_folding, folding}
-use Rattle.bx_map.proofs.Numbering.{all-weaker}
+use Rattle.bx_map.specs.Folds.{Fold, fold_value, driver_fold, Folding, net_fold, before_folding, folding}
 use Rattle.bx_map.proofs.Keeping.{Has, has-cases, has-one_same, all-has}
 use Rattle.bx_map.proofs.Folding.{AreMade, AllWithin, map-within, IsFoldingOf, folding-step, folding-start}
 use Rattle.bx_map.proofs.Truths.{truths, cell_truth, truth-at, means, IsTrueOf, true-gate, IsProper}
@@ -27,22 +27,12 @@ use Rattle.bx_map.proofs.Walking.{Ordered, none, more, walk-visits}
 proper-several : (op : Op) (args : List ℕ) → HasArity op args → 1 < length args → IsProper op
 proper-several Buf args h l = absurd (omega (arith, h))
 proper-several Not args h l = absurd (omega (arith, h))
-proper-several And args h l = tt
-proper-several Or args h l = tt
-proper-several Nand args h l = tt
-proper-several Nor args h l = tt
-proper-several Xor args h l = tt
-proper-several Xnor args h l = tt
+proper-several op args h l = tt
 
 some-arguments : (op : Op) (args : List ℕ) → HasArity op args → 0 < length args
 some-arguments Buf args h = omega (arith, h)
 some-arguments Not args h = omega (arith, h)
-some-arguments And args h = h
-some-arguments Or args h = h
-some-arguments Nand args h = h
-some-arguments Nor args h = h
-some-arguments Xor args h = h
-some-arguments Xnor args h = h
+some-arguments op args h = h
 
 maps-same : {X Y : Type 0} (f : X → Y) (g : ℕ → X) (ns : List ℕ) → map f (map g ns) ≡ map (λ n. f (g n)) ns
 maps-same f g [] = refl
@@ -50,7 +40,7 @@ maps-same f g (n ∷ ns) = ap (λ ys. f (g n) ∷ ys) (maps-same f g ns)
 
 -- what a driver makes of folded values has the value that it gives for theirs
 true-driver : (inputs nets : ℕ) (bits : List Bool) (values : List Value) (cells : List Cell) (d : Driver) → IsDriver inputs nets d → AreMade inputs cells → AllWithin (length cells) values →
-    IsTrueOf bits cells (driver_folded values cells d) (driver_value bits (λ n. means bits cells (fold_value values n)) d)
+    IsTrueOf bits cells (driver_fold values cells d) (driver_value bits (λ n. means bits cells (fold_value values n)) d)
 true-driver inputs nets bits values cells (driver.Input i) is made within = record {
   value = truth-at bits cells made.reads i (omega (arith, is, made.inputs_first)) ∙ ap (cell_truth bits (truths bits cells)) (made.firsts i is);
   keeps = λ v h. refl;
@@ -59,12 +49,12 @@ true-driver inputs nets bits values cells (driver.Input i) is made within = reco
 true-driver inputs nets bits values cells (driver.Constant b) is made within = record { value = refl; keeps = λ v h. refl; longer = omega arith }
 true-driver inputs nets bits values cells (driver.Gate op args) is made within =
     let many = length-map args (fold_value values) in
-    subst (IsTrueOf bits cells (driver_folded values cells (driver.Gate op args))) (ap (op_value op) (maps-same (means bits cells) (fold_value values) args))
+    subst (IsTrueOf bits cells (driver_fold values cells (driver.Gate op args))) (ap (op_value op) (maps-same (means bits cells) (fold_value values) args))
     (true-gate bits op cells (map (fold_value values) args) (omega (arith, many, some-arguments op args is.0)) (λ l. proper-several op args is.0 (omega (arith, many)))
     (map-within (length cells) values args within))
 
 abbrev pub state_after : Netlist → List ℕ → Folding
-state_after net order = fold (net_folded net.drivers) (before_folding net) order
+state_after net order = fold (net_fold net.drivers) (before_folding net) order
 
 pub record IsMeant (net : Netlist) (bits values : List Bool) (done : List ℕ) : Type 0 where
   pub folds : IsFoldingOf (length net.inputs) (state_after net done)
@@ -78,10 +68,10 @@ module _ (net : Netlist) (h : IsNet net) (bits values : List Bool) (valuation : 
   meant-next : (f : Folding) (done : List ℕ) (n : ℕ) → n < length net.drivers → AllByRecursion (Has done) (arguments_of (driver_at net.drivers n)) →
       IsFoldingOf (length net.inputs) f → length f.values ≡ length net.drivers →
       ((m : ℕ) → Has done m → means bits f.cells (fold_value f.values m) ≡ value_of values m) →
-      (m : ℕ) → Has (done ++ n ∷ []) m → means bits (net_folded net.drivers f n).cells (fold_value (net_folded net.drivers f n).values m) ≡ value_of values m
+      (m : ℕ) → Has (done ++ n ∷ []) m → means bits (net_fold net.drivers f n).cells (fold_value (net_fold net.drivers f n).values m) ≡ value_of values m
   meant-next f done n l there folds whole meant m has_m =
       let d : Driver = driver_at net.drivers n in
-      let made : Folded = driver_folded f.values f.cells d in
+      let made : Fold = driver_fold f.values f.cells d in
       let t = true-driver (length net.inputs) (length net.drivers) bits f.values f.cells d (driver-is n) folds.made folds.within in
       let here : means bits made.cells made.value ≡ value_of values n =
       t.value
@@ -110,10 +100,10 @@ module _ (net : Netlist) (h : IsNet net) (bits values : List Bool) (valuation : 
   all-meant _ (more done n l there ordered) =
       let before = all-meant done ordered in
       let f : Folding = state_after net done in
-      let next : state_after net (done ++ n ∷ []) ≡ net_folded net.drivers f n = fold-append (net_folded net.drivers) (before_folding net) done (n ∷ []) in
+      let next : state_after net (done ++ n ∷ []) ≡ net_fold net.drivers f n = fold-append (net_fold net.drivers) (before_folding net) done (n ∷ []) in
       record {
         folds = subst (IsFoldingOf (length net.inputs)) (sym next) (folding-step (length net.inputs) (length net.drivers) net.drivers f n (driver-is n) before.folds);
-        whole = ap (λ (g : Folding). length g.values) next ∙ (length-set f.values n (driver_folded f.values f.cells (driver_at net.drivers n)).value ∙ before.whole);
+        whole = ap (λ (g : Folding). length g.values) next ∙ (length-set f.values n (driver_fold f.values f.cells (driver_at net.drivers n)).value ∙ before.whole);
         meant = λ m has_m.
             ap (λ (g : Folding). means bits g.cells (fold_value g.values m)) next
             ∙ meant-next f done n l there before.folds before.whole before.meant m has_m;

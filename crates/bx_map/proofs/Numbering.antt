@@ -6,6 +6,9 @@ use Rattle.std.proofs.lemmas.List.{append_assoc, append-nil, length-append, map-
 use Rattle.bx_forms.specs.Kinds.{slots, operands}
 use Rattle.bx_network.specs.declared.node.Node.{Node}
 use Rattle.bx_network.specs.declared.node.Edge.{Edge}
+use Rattle.bx_network.specs.Networks.{one_if}
+use Rattle.std.proofs.Math.Seq.{take-suc}
+use Rattle.bx_logic.proofs.Lists.{all-append, all-first, all-second, all-weaker}
 use Rattle.bx_map.specs.declared.cell.Target.{Target}
 use Rattle.bx_map.specs.declared.cell.Cell.{Cell}
 use Rattle.bx_map.specs.declared.cell.Cell.TheVariants.{Input}
@@ -13,9 +16,9 @@ use Rattle.bx_map.specs.Cells.{CellNet, cell_at, kind_of, operands_of}
 use Rattle.bx_map.specs.declared.consumer.Consumer.{Consumer}
 use Rattle.bx_map.specs.declared.consumer.Consumer.TheVariants.{Operand, Output}
 use Rattle.bx_map.specs.declared.consumer.Use.{Use}
-use Rattle.bx_map.specs.FanOuts.{use_of, operand_uses, cell_uses, output_uses, uses, consumers, FanOut, direct, fan, half, fan_out, served, IsCellNet}
-use Rattle.bx_map.specs.Numbers.{edge_to, cell_node, fans, nodes_before, output_nodes, number, place, entry, fan_edges, edges_before, numbered}
-use Rattle.bx_map.proofs.Tallies.{one_if, tally, tally-append, tally-map, tally-filter, tally-same, sum_below, sum_below-same, tally-below}
+use Rattle.bx_map.specs.FanOuts.{use_of, operand_uses, cell_uses, output_uses, uses, consumers, FanOut, direct, fan, half, tree_within, tree_at, IsCellNet}
+use Rattle.bx_map.specs.Numbers.{edge_to, cell_node, fans, nodes_before, output_nodes, number, place, entry, fan_edges, edges_before, numbering_of}
+use Rattle.bx_map.proofs.Tallies.{tally, tally-append, tally-map, tally-filter, tally-same, sum_below, sum_below-same, tally-below}
 use Rattle.bx_map.proofs.Spots.{spot, row, spots, spots-append}
 
 abbrev pub source_of : Edge → Target
@@ -50,10 +53,10 @@ one_leaf [] l m = absurd (omega arith)
 one_leaf (c ∷ []) l m = refl
 one_leaf (c ∷ d ∷ cs) l m = absurd (omega arith)
 
-pub leaves-fan_out : (k : ℕ) (cs : List Consumer) → 0 < length cs → length cs ≤ suc k → leaves (fan_out k cs) ≡ cs
-unfolding fan_out
-leaves-fan_out zero cs l m = one_leaf cs l m
-leaves-fan_out (suc k) cs l m =
+pub leaves-tree_within : (k : ℕ) (cs : List Consumer) → 0 < length cs → length cs ≤ suc k → leaves (tree_within k cs) ≡ cs
+unfolding tree_within
+leaves-tree_within zero cs l m = one_leaf cs l m
+leaves-tree_within (suc k) cs l m =
     elim (cases_lt 1 (length cs)) [
       | inr few ↦ rw (le-ltb 1 (length cs) few) (one_leaf cs l few)
       | inl more ↦
@@ -61,14 +64,14 @@ leaves-fan_out (suc k) cs l m =
           let b = length-drop (half (length cs)) cs in
           rw (lt-ltb 1 (length cs) more)
           (ap₂ (λ (xs ys : List Consumer). xs ++ ys)
-          (leaves-fan_out k (take (half (length cs)) cs) (omega (arith, a)) (omega (arith, a)))
-          (leaves-fan_out k (drop (half (length cs)) cs) (omega (arith, b)) (omega (arith, b)))
+          (leaves-tree_within k (take (half (length cs)) cs) (omega (arith, a)) (omega (arith, a)))
+          (leaves-tree_within k (drop (half (length cs)) cs) (omega (arith, b)) (omega (arith, b)))
           ∙ take-append-drop (half (length cs)) cs)
     ]
 
-pub leaves-served : (net : CellNet) (i : ℕ) → 0 < length (consumers net i) → leaves (served net i) ≡ consumers net i
-unfolding served
-leaves-served net i l = leaves-fan_out (length (consumers net i)) (consumers net i) l (omega arith)
+pub leaves-tree_at : (net : CellNet) (i : ℕ) → 0 < length (consumers net i) → leaves (tree_at net i) ≡ consumers net i
+unfolding tree_at
+leaves-tree_at net i l = leaves-tree_within (length (consumers net i)) (consumers net i) l (omega arith)
 
 spots-behind : (f : Node → ℕ) (xs ys : List Node) → spots f 0 (xs ++ ys) ≡ spots f 0 xs ++ spots f (length xs) ys
 spots-behind f xs ys = spots-append f 0 xs ys ∙ ap (λ (v : ℕ). spots f 0 xs ++ spots f v ys) (omega arith)
@@ -89,19 +92,19 @@ pub cell-sources : (net : CellNet) (i : ℕ) → ((j : ℕ) → j < i → slots 
 unfolding edges_before nodes_before
 cell-sources net zero one = refl
 cell-sources net (suc i) one =
-    map-append source_of (edges_before net i) (edge_to (number net i) 0 (entry net (suc (number net i)) (served net i)) ∷ fan_edges net (suc (number net i)) (served net i))
+    map-append source_of (edges_before net i) (edge_to (number net i) 0 (entry net (suc (number net i)) (tree_at net i)) ∷ fan_edges net (suc (number net i)) (tree_at net i))
     ∙ (ap₂ (λ (xs ys : List Target). xs ++ ys) (cell-sources net i (λ j l. one j (omega arith)))
-    (ap (λ (ts : List Target). spot (number net i) 0 ∷ ts) (fan-sources net (suc (number net i)) (served net i))
-    ∙ ap (λ (k : ℕ). row (number net i) 0 k ++ spots slots_at (suc (number net i)) (fans (served net i))) (sym (one i (omega arith))))
-    ∙ sym (spots-behind slots_at (nodes_before net i) (cell_node (cell_at net.cells i) ∷ fans (served net i))))
+    (ap (λ (ts : List Target). spot (number net i) 0 ∷ ts) (fan-sources net (suc (number net i)) (tree_at net i))
+    ∙ ap (λ (k : ℕ). row (number net i) 0 k ++ spots slots_at (suc (number net i)) (fans (tree_at net i))) (sym (one i (omega arith))))
+    ∙ sym (spots-behind slots_at (nodes_before net i) (cell_node (cell_at net.cells i) ∷ fans (tree_at net i))))
 
 output-spots_none : (v j : ℕ) (is : List ℕ) → spots slots_at v (output_nodes j is) ≡ []
 output-spots_none v j [] = refl
 output-spots_none v j (i ∷ is) = output-spots_none (suc v) (suc j) is
 
 pub sources : (net : CellNet) → ((j : ℕ) → j < length net.cells → slots (kind_of (cell_at net.cells j)) ≡ 1) →
-    map source_of (numbered net).edges ≡ spots slots_at 0 (numbered net).nodes
-unfolding numbered
+    map source_of (numbering_of net).edges ≡ spots slots_at 0 (numbering_of net).nodes
+unfolding numbering_of
 sources net one =
     cell-sources net (length net.cells) one
     ∙ (sym (append-nil (spots slots_at 0 (nodes_before net (length net.cells))))
@@ -140,11 +143,6 @@ output-places net j (i ∷ is) =
     ap (λ (ts : List Target). spot (number net (length net.cells) + j) 0 ∷ ts)
     (output-places net (suc j) is ∙ ap (λ (v : ℕ). spots operands_at v (output_nodes (suc j) is)) (omega arith))
 
-pub take_next : {X : Type 0} (xs : List X) (i : ℕ) (d : X) → i < length xs → take (suc i) xs ≡ take i xs ++ get_or xs i d ∷ []
-take_next [] i d l = absurd (omega arith)
-take_next (x ∷ xs) zero d l = refl
-take_next (x ∷ xs) (suc i) d l = ap (λ ys. x ∷ ys) (take_next xs i d (omega arith))
-
 pub cell_uses-append : (j : ℕ) (cs : List Cell) (c : Cell) → cell_uses j (cs ++ c ∷ []) ≡ cell_uses j cs ++ operand_uses (j + length cs) 0 (operands_of c)
 cell_uses-append j [] c = append-nil (operand_uses j 0 (operands_of c)) ∙ ap (λ (v : ℕ). operand_uses v 0 (operands_of c)) (omega arith)
 cell_uses-append j (d ∷ cs) c =
@@ -156,47 +154,31 @@ pub cell_uses-next : (cells : List Cell) (i : ℕ) → i < length cells →
     cell_uses 0 (take (suc i) cells) ≡ cell_uses 0 (take i cells) ++ operand_uses i 0 (operands_of (cell_at cells i))
 cell_uses-next cells i l =
     let many : length (take i cells) ≡ i = length-take i cells ∙ omega arith in
-    ap (cell_uses 0) (take_next cells i (Input 0) l)
+    ap (cell_uses 0) (take-suc cells i (Input 0) l)
     ∙ (cell_uses-append 0 (take i cells) (cell_at cells i)
     ∙ ap (λ (v : ℕ). cell_uses 0 (take i cells) ++ operand_uses v 0 (operands_of (cell_at cells i))) (omega (arith, many)))
 
 cell-targets : (p : Target → Bool) (net : CellNet) → IsCellNet net → (i : ℕ) → i ≤ length net.cells →
     tally p (map target_of (edges_before net i)) + tally p (map (use_place net) (cell_uses 0 (take i net.cells)))
-    ≡ tally p (spots operands_at 0 (nodes_before net i)) + sum_below (λ j. tally p (map (place net) (leaves (served net j)))) i
+    ≡ tally p (spots operands_at 0 (nodes_before net i)) + sum_below (λ j. tally p (map (place net) (leaves (tree_at net j)))) i
 unfolding edges_before nodes_before
 cell-targets p net h zero l = refl
 cell-targets p net h (suc i) l =
     let v : ℕ = number net i in
-    let t : FanOut = served net i in
+    let t : FanOut = tree_at net i in
     let c : Cell = cell_at net.cells i in
     let first : Edge = edge_to v 0 (entry net (suc v) t) in
     let a = cell-targets p net h i (omega arith) in
     let b = tally-parts p target_of (edges_before net i) (first ∷ fan_edges net (suc v) t) in
     let d = fan-targets p net (suc v) t in
     let e = ap (tally p) (ap (map (use_place net)) (cell_uses-next net.cells i (omega arith))) ∙ tally-parts p (use_place net) (cell_uses 0 (take i net.cells)) (operand_uses i 0 (operands_of c)) in
-    let f = ap (tally p) (operand-places net i 0 (operands_of c) ∙ ap (row v 0) (h.arity i (omega arith))) in
+    let f = ap (tally p) (operand-places net i 0 (operands_of c) ∙ ap (row v 0) (h.cells.arity i (omega arith))) in
     let g = ap (tally p) (spots-behind operands_at (nodes_before net i) (cell_node c ∷ fans t))
     ∙ (tally-append p (spots operands_at 0 (nodes_before net i)) (row v 0 (operands (kind_of c)) ++ spots operands_at (suc v) (fans t))
     ∙ ap (λ (n : ℕ). tally p (spots operands_at 0 (nodes_before net i)) + n) (tally-append p (row v 0 (operands (kind_of c))) (spots operands_at (suc v) (fans t)))) in
     omega (arith, a, b, d, e, f, g)
 
 -- what holds of the uses by each cell holds of those by all
-pub all-append : {X : Type 0} (P : X → Type 0) (xs ys : List X) → AllByRecursion P xs → AllByRecursion P ys → AllByRecursion P (xs ++ ys)
-all-append P [] ys a b = b
-all-append P (x ∷ xs) ys a b = (a.0, all-append P xs ys a.1 b)
-
-pub all-first : {X : Type 0} (P : X → Type 0) (xs ys : List X) → AllByRecursion P (xs ++ ys) → AllByRecursion P xs
-all-first P [] ys a = tt
-all-first P (x ∷ xs) ys a = (a.0, all-first P xs ys a.1)
-
-pub all-second : {X : Type 0} (P : X → Type 0) (xs ys : List X) → AllByRecursion P (xs ++ ys) → AllByRecursion P ys
-all-second P [] ys a = a
-all-second P (x ∷ xs) ys a = all-second P xs ys a.1
-
-pub all-weaker : {X : Type 0} (P Q : X → Type 0) → ((x : X) → P x → Q x) → (xs : List X) → AllByRecursion P xs → AllByRecursion Q xs
-all-weaker P Q h [] a = tt
-all-weaker P Q h (x ∷ xs) a = (h x a.0, all-weaker P Q h xs a.1)
-
 pub all-cell_uses : (P : Use → Type 0) (cells : List Cell) → ((j : ℕ) → j < length cells → AllByRecursion P (operand_uses j 0 (operands_of (cell_at cells j)))) →
     (i : ℕ) → i ≤ length cells → AllByRecursion P (cell_uses 0 (take i cells))
 all-cell_uses P cells h zero l = tt
@@ -223,24 +205,24 @@ all-output_uses P Q h j (i ∷ is) a = (h j i a.0, all-output_uses P Q h (suc j)
 pub uses-within : (net : CellNet) → IsCellNet net → AllByRecursion (λ (u : Use). u.cell < length net.cells) (uses net)
 uses-within net h =
     all-uses (λ (u : Use). u.cell < length net.cells) net
-    (λ j l. all-operand_uses (λ (u : Use). u.cell < length net.cells) (λ a. a < j) j (λ k i m. omega arith) 0 (operands_of (cell_at net.cells j)) (h.reads j l))
-    (all-output_uses (λ (u : Use). u.cell < length net.cells) (λ a. a < length net.cells) (λ j i m. m) 0 net.outputs h.outputs)
+    (λ j l. all-operand_uses (λ (u : Use). u.cell < length net.cells) (λ a. a < j) j (λ k i m. omega arith) 0 (operands_of (cell_at net.cells j)) (h.cells.reads j))
+    (all-output_uses (λ (u : Use). u.cell < length net.cells) (λ a. a < length net.cells) (λ j i m. m) 0 net.outputs h.cells.outputs)
 
 -- the targets of all cells together are the places of all uses
-served-places : (p : Target → Bool) (net : CellNet) (i : ℕ) → 0 < length (consumers net i) →
-    tally p (map (place net) (leaves (served net i))) ≡ tally (λ u. (u.cell == i) && p (use_place net u)) (uses net)
+tree_at-places : (p : Target → Bool) (net : CellNet) (i : ℕ) → 0 < length (consumers net i) →
+    tally p (map (place net) (leaves (tree_at net i))) ≡ tally (λ u. (u.cell == i) && p (use_place net u)) (uses net)
 unfolding consumers
-served-places p net i l =
-    ap (λ (cs : List Consumer). tally p (map (place net) cs)) (leaves-served net i l)
+tree_at-places p net i l =
+    ap (λ (cs : List Consumer). tally p (map (place net) cs)) (leaves-tree_at net i l)
     ∙ (tally-map p (place net) (map (λ u. u.consumer) (filter (λ u. u.cell == i) (uses net)))
     ∙ (tally-map (λ c. p (place net c)) (λ u. u.consumer) (filter (λ u. u.cell == i) (uses net))
     ∙ tally-filter (λ u. p (use_place net u)) (λ u. u.cell == i) (uses net)))
 
 all-used : (p : Target → Bool) (net : CellNet) → IsCellNet net →
-    sum_below (λ i. tally p (map (place net) (leaves (served net i)))) (length net.cells) ≡ tally p (map (use_place net) (uses net))
+    sum_below (λ i. tally p (map (place net) (leaves (tree_at net i)))) (length net.cells) ≡ tally p (map (use_place net) (uses net))
 all-used p net h =
-    sum_below-same (λ i. tally p (map (place net) (leaves (served net i)))) (λ i. tally (λ u. (u.cell == i) && p (use_place net u)) (uses net)) (length net.cells)
-    (λ i l. served-places p net i (h.consumed i l))
+    sum_below-same (λ i. tally p (map (place net) (leaves (tree_at net i)))) (λ i. tally (λ u. (u.cell == i) && p (use_place net u)) (uses net)) (length net.cells)
+    (λ i l. tree_at-places p net i (h.consumed i l))
     ∙ (tally-below (λ (u : Use). u.cell) (λ u. p (use_place net u)) (uses net) (length net.cells)
     ∙ (tally-same (λ u. nat_lt u.cell (length net.cells) && p (use_place net u)) (λ u. p (use_place net u)) (uses net)
     (all-weaker (λ (u : Use). u.cell < length net.cells) (λ u. (nat_lt u.cell (length net.cells) && p (use_place net u)) ≡ p (use_place net u))
@@ -248,8 +230,8 @@ all-used p net h =
     ∙ sym (tally-map p (use_place net) (uses net))))
 
 pub targets : (p : Target → Bool) (net : CellNet) → IsCellNet net →
-    tally p (map target_of (numbered net).edges) ≡ tally p (spots operands_at 0 (numbered net).nodes)
-unfolding numbered uses
+    tally p (map target_of (numbering_of net).edges) ≡ tally p (spots operands_at 0 (numbering_of net).nodes)
+unfolding numbering_of uses
 targets p net h =
     let n : ℕ = length net.cells in
     let a = cell-targets p net h n (omega arith) in
@@ -264,9 +246,9 @@ targets p net h =
 
 -- each edge leads to a node further on
 
-pub number-next : (net : CellNet) (i : ℕ) → number net (suc i) ≡ number net i + 1 + length (fans (served net i))
+pub number-next : (net : CellNet) (i : ℕ) → number net (suc i) ≡ number net i + 1 + length (fans (tree_at net i))
 unfolding nodes_before
-number-next net i = length-append (nodes_before net i) (cell_node (cell_at net.cells i) ∷ fans (served net i)) ∙ omega arith
+number-next net i = length-append (nodes_before net i) (cell_node (cell_at net.cells i) ∷ fans (tree_at net i)) ∙ omega arith
 
 pub number-rises : (net : CellNet) (i j : ℕ) → i ≤ j → number net i ≤ number net j
 number-rises net i zero l = let e : i ≡ 0 = omega arith in rw e (omega arith)

@@ -7,22 +7,22 @@ use Rattle.std.proofs.lemmas.List.Elements.{All-contains, Contains-get_or}
 use Rattle.std.proofs.lemmas.List.{get_or_default}
 use Rattle.bx_map.specs.Cells.{CellNet, cell_at, operands_of, AreCells}
 use Rattle.bx_map.specs.Walks.{has}
-use Rattle.bx_map.specs.Drops.{Reaches, output, through, staying, stay_of}
-use Rattle.bx_map.proofs.Keeping.{Has, has-found, has-cases, has-one_same, has-get_or, staying-wants, staying-lacks}
+use Rattle.bx_map.specs.Drops.{Reaches, output, through, stay_before, stay_of}
+use Rattle.bx_map.proofs.Keeping.{Has, has-found, has-cases, has-one_same, has-get_or, stay_before-wants, stay_before-lacks}
 use Rattle.bx_map.proofs.Dropping.{reads-stay, outputs-stay}
 
 contains-has : (xs : List ℕ) (n : ℕ) → Has xs n → Contains xs n
 contains-has xs n h = let (k, l, at) = has-found xs n h in subst (Contains xs) at (Contains-get_or xs k 0 l)
 
-stay-reaches : (net : CellNet) (n : ℕ) (wanted : List ℕ) → ((w : ℕ) → Has wanted w → Reaches net w) → (i : ℕ) → Has (staying net.cells n wanted) i → Reaches net i
-unfolding staying
+stay-reaches : (net : CellNet) (n : ℕ) (wanted : List ℕ) → ((w : ℕ) → Has wanted w → Reaches net w) → (i : ℕ) → Has (stay_before net.cells n wanted) i → Reaches net i
+unfolding stay_before
 stay-reaches net zero wanted reach i s = absurd (cc)
 stay-reaches net (suc m) wanted reach i s =
     elim (cases_Bool (has wanted m)) [
       | inl wants ↦
           let reads : List ℕ = operands_of (cell_at net.cells m) in
-          let below : List ℕ = staying net.cells m (reads ++ wanted) in
-          elim (has-cases below (m ∷ []) i (subst (λ (xs : List ℕ). Has xs i) (staying-wants net.cells m wanted wants) s)) [
+          let below : List ℕ = stay_before net.cells m (reads ++ wanted) in
+          elim (has-cases below (m ∷ []) i (subst (λ (xs : List ℕ). Has xs i) (stay_before-wants net.cells m wanted wants) s)) [
             | inr top ↦ subst (Reaches net) (has-one_same m i top) (reach m wants)
             | inl low ↦
                 stay-reaches net m (reads ++ wanted)
@@ -31,7 +31,7 @@ stay-reaches net (suc m) wanted reach i s =
                   | inr u ↦ reach w u
                 ]) i low
           ]
-      | inr lacks ↦ stay-reaches net m wanted reach i (subst (λ (xs : List ℕ). Has xs i) (staying-lacks net.cells m wanted lacks) s)
+      | inr lacks ↦ stay-reaches net m wanted reach i (subst (λ (xs : List ℕ). Has xs i) (stay_before-lacks net.cells m wanted lacks) s)
     ]
 
 has-contained : (xs : List ℕ) (n : ℕ) → Contains xs n → Has xs n

@@ -4,8 +4,10 @@ use Rattle.std.specs.List.{slice_get, AllByRecursion}
 use Rattle.std.proofs.lemmas.Bool.{cases_eq, eq-eqb, ne_eqb, lt-ltb, le-ltb, and_left, and_right}
 use Rattle.std.proofs.lemmas.List.{append_assoc}
 use Rattle.bx_network.specs.declared.node.Node.{Node}
+use Rattle.bx_network.specs.Networks.{one_if}
+use Rattle.bx_logic.proofs.Lists.{Some-same}
 use Rattle.bx_map.specs.declared.cell.Target.{Target}
-use Rattle.bx_map.proofs.Tallies.{one_if, tally, tally-append}
+use Rattle.bx_map.proofs.Tallies.{tally, tally-append}
 
 abbrev pub spot : ℕ → ℕ → Target
 spot v k = record { node = v; operand = k }
@@ -62,9 +64,6 @@ spots-before f w o v (x ∷ xs) l =
     tally-append (is_at w o) (row v 0 (f x)) (spots f (suc v) xs)
     ∙ ap₂ (λ (a b : ℕ). a + b) (row-elsewhere w o v 0 (f x) (λ e. omega arith)) (spots-before f w o (suc v) xs (omega arith))
 
-same_node : (x y : Node) → Some x ≡ Some y → x ≡ y
-same_node x y e = cc
-
 -- the slots or operands of a node stand there once, and others don't
 pub spots-at : (f : Node → ℕ) (w o v i : ℕ) (nodes : List Node) (node : Node) → slice_get nodes i ≡ Some node → w ≡ v + i →
     tally (is_at w o) (spots f v nodes) ≡ one_if (nat_lt o (f node))
@@ -75,7 +74,7 @@ spots-at f w o v zero (x ∷ xs) node found e =
     ∙ ap₂ (λ (a b : ℕ). a + b)
     (subst (λ (u : ℕ). tally (is_at u o) (row v 0 (f x)) ≡ one_if (nat_lt o (f x))) (sym here) (row-at v o 0 (f x) (omega arith) ∙ ap (λ (m : ℕ). one_if (nat_lt o m)) (omega arith)))
     (spots-before f w o (suc v) xs (omega arith))
-    ∙ (omega arith ∙ ap (λ (n : Node). one_if (nat_lt o (f n))) (same_node x node found))
+    ∙ (omega arith ∙ ap (λ (n : Node). one_if (nat_lt o (f n))) (Some-same x node found))
 spots-at f w o v (suc i) (x ∷ xs) node found e =
     tally-append (is_at w o) (row v 0 (f x)) (spots f (suc v) xs)
     ∙ ap₂ (λ (a b : ℕ). a + b) (row-elsewhere w o v 0 (f x) (λ h. omega arith)) (spots-at f w o (suc v) i xs node found (omega arith))

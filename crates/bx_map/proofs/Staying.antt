@@ -2,20 +2,20 @@
 -- is kept of the first so many.
 use Rattle.std.proofs.Common.{◌≡◌, ℕ, zero, suc, ◌+◌, ◌<◌, ◌≤◌, ◌==◌, nat_lt, Bool, true, false, ◌||◌, if◌then◌else◌, List, [], ◌∷◌, ◌++◌, length, map, take, get_or, replicate, refl, sym, ◌∙◌, ap, subst, arith, inl, inr}
 use Rattle.std.specs.List.{AllByRecursion}
-use Rattle.std.proofs.Math.Bool.{and-true}
 use Rattle.std.proofs.Math.Seq.{take-suc}
 use Rattle.std.proofs.lemmas.Bool.{cases_eq, cases_lt, eq-eqb, ne_eqb, le-ltb}
-use Rattle.std.proofs.lemmas.List.{append-nil, append_assoc, length-append, length-map, length-take, take_all, map-append, get_or-replicate, get_or_append_left, get_or_at}
+use Rattle.std.proofs.lemmas.List.{append-nil, append_assoc, length-append, length-map, length-take, length-replicate, take_all, map-append, get_or-replicate, get_or_append_left, get_or_at}
+use Rattle.bx_logic.proofs.Lists.{all-weaker}
+use Rattle.bx_network.specs.Networks.{one_if}
 use Rattle.bx_map.specs.declared.cell.Cell.{Cell}
 use Rattle.bx_map.specs.declared.cell.Cell.TheVariants.{Input, Not, Gate}
-use Rattle.bx_map.specs.Cells.{CellNet, cell_net, AreCells, cell_at, operands_of, renumbered}
+use Rattle.bx_map.specs.Cells.{CellNet, cell_net, AreCells, cell_at, operands_of, with_numbers}
 use Rattle.bx_map.specs.Walks.{has}
-use Rattle.bx_map.specs.Drops.{AreRanks, staying, stay_of, rank, kept, dropped}
-use Rattle.bx_map.specs.Marks.{AreMarks, marked}
-use Rattle.bx_map.proofs.Tallies.{one_if, tally, tally-sum, tally-append, one_below}
-use Rattle.bx_map.proofs.Keeping.{Rising, none, more, staying-wants, staying-lacks, staying-within, staying-rises, place_of, place-most, place-all, rank-is, at-rank}
-use Rattle.bx_map.proofs.Marking.{has-both, has-behind, marked-at, marked-length}
-use Rattle.bx_map.proofs.Numbering.{all-weaker}
+use Rattle.bx_map.specs.Drops.{AreRanks, stay_before, stay_of, rank, cone_cells, cone_of}
+use Rattle.bx_map.specs.Marks.{AreMarks, with_marks}
+use Rattle.bx_map.proofs.Tallies.{tally, tally-sum, tally-append, one_next}
+use Rattle.bx_map.proofs.Keeping.{Rising, none, more, stay_before-wants, stay_before-lacks, stay_before-within, stay_before-rises, place_of, place-most, place-all, rank-is, at-rank}
+use Rattle.bx_map.proofs.Marking.{has-both, has-behind, with_marks-at, with_marks-length}
 
 has-none : (xs : List ℕ) (n : ℕ) → AllByRecursion (λ a. a ≡ n → ⊥) xs → has xs n ≡ false
 has-none [] n a = refl
@@ -31,31 +31,27 @@ pub record IsMarking (net : CellNet) (i : ℕ) (marks : List Bool) : Type 0 wher
   pub wanted : List ℕ
   pub tail : List ℕ
   pub whole : length marks ≡ length net.cells
-  pub splits : stay_of net ≡ staying net.cells i wanted ++ tail
+  pub splits : stay_of net ≡ stay_before net.cells i wanted ++ tail
   pub above : AllByRecursion (λ a. i ≤ a) tail
   pub low : (j : ℕ) → j < i → get_or marks j false ≡ has wanted j
   pub high : (j : ℕ) → i ≤ j → j < length net.cells → get_or marks j false ≡ has tail j
 
 module _ (net : CellNet) (h : AreCells net) where
-  pub marking-begin : (marks : List Bool) → marks ≡ marked (replicate (length net.cells) false) net.outputs → IsMarking net (length net.cells) marks
+  pub marking-begin : (marks : List Bool) → marks ≡ with_marks (replicate (length net.cells) false) net.outputs → IsMarking net (length net.cells) marks
   marking-begin marks is =
       let n : ℕ = length net.cells in
       let none_yet : List Bool = replicate n false in
-      let whole : length none_yet ≡ n = ListLength n in
+      let whole : length none_yet ≡ n = length-replicate n false in
       let all : AllByRecursion (λ a. a < length none_yet) net.outputs = all-weaker (λ a. a < n) (λ a. a < length none_yet) (λ a l. omega (arith, l, whole)) net.outputs h.outputs in
       record {
         wanted = net.outputs;
         tail = [];
-        whole = ap length is ∙ (marked-length none_yet net.outputs ∙ whole);
-        splits = sym (append-nil (staying net.cells n net.outputs));
+        whole = ap length is ∙ (with_marks-length none_yet net.outputs ∙ whole);
+        splits = sym (append-nil (stay_before net.cells n net.outputs));
         above = tt;
-        low = λ j l. ap (λ (ms : List Bool). get_or ms j false) is ∙ (marked-at none_yet net.outputs j all ∙ or-nothing (has net.outputs j) (get_or none_yet j false) (get_or-replicate n j false false l));
+        low = λ j l. ap (λ (ms : List Bool). get_or ms j false) is ∙ (with_marks-at none_yet net.outputs j all ∙ or-nothing (has net.outputs j) (get_or none_yet j false) (get_or-replicate n j false false l));
         high = λ j m l. absurd (omega arith);
       }
-    where
-      ListLength : (n : ℕ) → length (replicate n false) ≡ n
-      ListLength zero = refl
-      ListLength (suc n) = let e = ListLength n in omega (arith, e)
 
   pub marking-lacks : (i : ℕ) (marks : List Bool) → IsMarking net (i + 1) marks → get_or marks i false ≡ false → IsMarking net i marks
   marking-lacks i marks m off = lacks (subst (λ (k : ℕ). IsMarking net k marks) (omega arith) m)
@@ -65,7 +61,7 @@ module _ (net : CellNet) (h : AreCells net) where
         wanted = m.wanted;
         tail = m.tail;
         whole = m.whole;
-        splits = m.splits ∙ ap (λ (xs : List ℕ). xs ++ m.tail) (staying-lacks net.cells i m.wanted (sym (m.low i (omega arith)) ∙ off));
+        splits = m.splits ∙ ap (λ (xs : List ℕ). xs ++ m.tail) (stay_before-lacks net.cells i m.wanted (sym (m.low i (omega arith)) ∙ off));
         above = all-weaker (λ a. suc i ≤ a) (λ a. i ≤ a) (λ a l. omega arith) m.tail m.above;
         low = λ j l. m.low j (omega arith);
         high = λ j l k. elim (cases_eq j i) [
@@ -76,7 +72,7 @@ module _ (net : CellNet) (h : AreCells net) where
       }
 
   pub marking-wants : (i : ℕ) (marks next : List Bool) → i < length net.cells → IsMarking net (i + 1) marks → get_or marks i false ≡ true →
-      next ≡ marked marks (operands_of (cell_at net.cells i)) → IsMarking net i next
+      next ≡ with_marks marks (operands_of (cell_at net.cells i)) → IsMarking net i next
   marking-wants i marks next within m on is = wants (subst (λ (k : ℕ). IsMarking net k marks) (omega arith) m)
     where
       wants : IsMarking net (suc i) marks → IsMarking net i next
@@ -85,14 +81,14 @@ module _ (net : CellNet) (h : AreCells net) where
           let all : AllByRecursion (λ a. a < length marks) (operands_of (cell_at net.cells i)) =
           all-weaker (λ a. a < i) (λ a. a < length marks) (λ a l. omega (arith, l, whole)) (operands_of (cell_at net.cells i)) (h.reads i) in
           let at : (j : ℕ) → get_or next j false ≡ (has (operands_of (cell_at net.cells i)) j || get_or marks j false) =
-          λ j. ap (λ (ms : List Bool). get_or ms j false) is ∙ marked-at marks (operands_of (cell_at net.cells i)) j all in
+          λ j. ap (λ (ms : List Bool). get_or ms j false) is ∙ with_marks-at marks (operands_of (cell_at net.cells i)) j all in
           record {
             wanted = operands_of (cell_at net.cells i) ++ m.wanted;
             tail = i ∷ m.tail;
-            whole = ap length is ∙ (marked-length marks (operands_of (cell_at net.cells i)) ∙ m.whole);
+            whole = ap length is ∙ (with_marks-length marks (operands_of (cell_at net.cells i)) ∙ m.whole);
             splits = m.splits
-                ∙ (ap (λ (xs : List ℕ). xs ++ m.tail) (staying-wants net.cells i m.wanted (sym (m.low i (omega arith)) ∙ on))
-                ∙ append_assoc (staying net.cells i (operands_of (cell_at net.cells i) ++ m.wanted)) (i ∷ []) m.tail);
+                ∙ (ap (λ (xs : List ℕ). xs ++ m.tail) (stay_before-wants net.cells i m.wanted (sym (m.low i (omega arith)) ∙ on))
+                ∙ append_assoc (stay_before net.cells i (operands_of (cell_at net.cells i) ++ m.wanted)) (i ∷ []) m.tail);
             above = (omega arith, all-weaker (λ a. suc i ≤ a) (λ a. i ≤ a) (λ a l. omega arith) m.tail m.above);
             low = λ j l.
                 at j ∙ (ap (λ (b : Bool). has (operands_of (cell_at net.cells i)) j || b) (m.low j (omega arith)) ∙ sym (has-both (operands_of (cell_at net.cells i)) m.wanted j));
@@ -107,7 +103,7 @@ module _ (net : CellNet) (h : AreCells net) where
           }
 
   pub marking-end : (marks : List Bool) → IsMarking net 0 marks → AreMarks (length net.cells) (stay_of net) marks
-  unfolding staying
+  unfolding stay_before
   marking-end marks m = record {
     whole = m.whole;
     each = λ i l. m.high i (omega arith) l ∙ sym (ap (λ (xs : List ℕ). has xs i) m.splits);
@@ -137,17 +133,9 @@ one-at _ (more xs n below rises) i =
 
 pub place-next : (xs : List ℕ) → Rising xs → (i : ℕ) → place_of xs (suc i) ≡ place_of xs i + one_if (has xs i)
 place-next xs rises i =
-    let step = tally-sum (λ j. nat_lt j (suc i)) (λ j. nat_lt j i) (λ j. j == i) (λ j. one j) xs in
+    let step = tally-sum (λ j. nat_lt j (suc i)) (λ j. nat_lt j i) (λ j. j == i) (λ j. one_next j i) xs in
     let at = one-at xs rises i in
     omega (arith, step, at)
-  where
-    one : (j : ℕ) → one_if (nat_lt j (suc i)) ≡ one_if (nat_lt j i) + one_if (j == i)
-    one j =
-        let e = one_below true j i in
-        let a = ap one_if (and-true (nat_lt j (suc i))) in
-        let b = ap one_if (and-true (nat_lt j i)) in
-        let c = ap one_if (and-true (j == i)) in
-        omega (arith, e, a, b, c)
 
 pub rank-next : (xs : List ℕ) → Rising xs → (i : ℕ) → rank xs (i + 1) ≡ rank xs i + one_if (has xs i)
 rank-next xs rises i =
@@ -161,15 +149,15 @@ rank-within_length xs i = let a = rank-is xs i in let b = place-most xs i in ome
 
 -- what is kept of the first so many cells
 pub kept_before : CellNet → ℕ → List Cell
-kept_before net i = map (λ k. renumbered (rank (stay_of net)) (cell_at net.cells k)) (take (rank (stay_of net) i) (stay_of net))
+kept_before net i = map (λ k. with_numbers (rank (stay_of net)) (cell_at net.cells k)) (take (rank (stay_of net) i) (stay_of net))
 
 module _ (net : CellNet) where
   rising : Rising (stay_of net)
-  rising = staying-rises net.cells (length net.cells) net.outputs
+  rising = stay_before-rises net.cells (length net.cells) net.outputs
 
   pub kept-begin : [] ≡ kept_before net 0
   unfolding kept_before
-  kept-begin = sym (ap (λ (r : ℕ). map (λ k. renumbered (rank (stay_of net)) (cell_at net.cells k)) (take r (stay_of net))) (rank-is (stay_of net) 0 ∙ none-below (stay_of net)))
+  kept-begin = sym (ap (λ (r : ℕ). map (λ k. with_numbers (rank (stay_of net)) (cell_at net.cells k)) (take r (stay_of net))) (rank-is (stay_of net) 0 ∙ none-below (stay_of net)))
     where
       none-below : (xs : List ℕ) → place_of xs 0 ≡ 0
       none-below [] = refl
@@ -179,7 +167,7 @@ module _ (net : CellNet) where
   unfolding kept_before
   kept-length i =
       let within = rank-within_length (stay_of net) i in
-      length-map (take (rank (stay_of net) i) (stay_of net)) (λ k. renumbered (rank (stay_of net)) (cell_at net.cells k))
+      length-map (take (rank (stay_of net) i) (stay_of net)) (λ k. with_numbers (rank (stay_of net)) (cell_at net.cells k))
       ∙ (length-take (rank (stay_of net) i) (stay_of net) ∙ omega (arith, within))
 
   pub kept-lacks : (i : ℕ) → has (stay_of net) i ≡ false → kept_before net i ≡ kept_before net (i + 1)
@@ -187,16 +175,16 @@ module _ (net : CellNet) where
   kept-lacks i off =
       let next = rank-next (stay_of net) rising i in
       let zero_more = ap one_if off in
-      ap (λ (r : ℕ). map (λ k. renumbered (rank (stay_of net)) (cell_at net.cells k)) (take r (stay_of net))) (omega (arith, next, zero_more))
+      ap (λ (r : ℕ). map (λ k. with_numbers (rank (stay_of net)) (cell_at net.cells k)) (take r (stay_of net))) (omega (arith, next, zero_more))
 
-  pub kept-has : (i : ℕ) (c : Cell) → has (stay_of net) i ≡ true → c ≡ renumbered (rank (stay_of net)) (cell_at net.cells i) →
+  pub kept-has : (i : ℕ) (c : Cell) → has (stay_of net) i ≡ true → c ≡ with_numbers (rank (stay_of net)) (cell_at net.cells i) →
       kept_before net i ++ c ∷ [] ≡ kept_before net (i + 1)
   unfolding kept_before
   kept-has i c on is =
       let stay : List ℕ = stay_of net in
       let next = rank-next stay rising i in
       let one_more = ap one_if on in
-      let f : ℕ → Cell = λ k. renumbered (rank stay) (cell_at net.cells k) in
+      let f : ℕ → Cell = λ k. with_numbers (rank stay) (cell_at net.cells k) in
       let r : ℕ = rank stay i in
       let up : suc r ≡ rank stay (i + 1) = omega (arith, next, one_more) in
       let within : r < length stay = (let most = rank-within_length stay (i + 1) in omega (arith, most, up)) in
@@ -205,12 +193,12 @@ module _ (net : CellNet) where
       ap (λ (d : Cell). map f (take r stay) ++ d ∷ []) is
       ∙ (sym (map-append f (take r stay) (i ∷ [])) ∙ (sym (ap (map f) longer) ∙ ap (λ (k : ℕ). map f (take k stay)) up))
 
-  pub kept-all : kept_before net (length net.cells) ≡ (kept net (stay_of net)).cells
+  pub kept-all : kept_before net (length net.cells) ≡ cone_cells net
   unfolding kept_before
   kept-all =
       let stay : List ℕ = stay_of net in
-      let many = rank-is stay (length net.cells) ∙ place-all stay (length net.cells) (staying-within net.cells (length net.cells) net.outputs) in
-      ap (map (λ k. renumbered (rank stay) (cell_at net.cells k))) (take_all (rank stay (length net.cells)) stay (omega (arith, many)))
+      let many = rank-is stay (length net.cells) ∙ place-all stay (length net.cells) (stay_before-within net.cells (length net.cells) net.outputs) in
+      ap (map (λ k. with_numbers (rank stay) (cell_at net.cells k))) (take_all (rank stay (length net.cells)) stay (omega (arith, many)))
 
 pub ranks-push : (n r : ℕ) (stay ranks : List ℕ) → AreRanks n stay ranks → r ≡ rank stay n → AreRanks (n + 1) stay (ranks ++ r ∷ [])
 ranks-push n r stay ranks h e =
@@ -224,11 +212,11 @@ ranks-push n r stay ranks h e =
     }
 
 -- ranks in a list of them, where the cell reads those alone
-pub renumbered-same : (n : ℕ) (stay ranks : List ℕ) (c : Cell) → AreRanks n stay ranks → AllByRecursion (λ a. a < n) (operands_of c) →
-    renumbered (λ a. get_or ranks a 0) c ≡ renumbered (rank stay) c
-renumbered-same n stay ranks (Input port) h a = refl
-renumbered-same n stay ranks (Not x) h a = ap Not (h.each x a.0)
-renumbered-same n stay ranks (Gate kind x y) h a = ap (λ (k : ℕ). Gate kind k (get_or ranks y 0)) (h.each x a.0) ∙ ap (λ (k : ℕ). Gate kind (rank stay x) k) (h.each y a.1.0)
+pub with_numbers-same : (n : ℕ) (stay ranks : List ℕ) (c : Cell) → AreRanks n stay ranks → AllByRecursion (λ a. a < n) (operands_of c) →
+    with_numbers (λ a. get_or ranks a 0) c ≡ with_numbers (rank stay) c
+with_numbers-same n stay ranks (Input port) h a = refl
+with_numbers-same n stay ranks (Not x) h a = ap Not (h.each x a.0)
+with_numbers-same n stay ranks (Gate kind x y) h a = ap (λ (k : ℕ). Gate kind k (get_or ranks y 0)) (h.each x a.0) ∙ ap (λ (k : ℕ). Gate kind (rank stay x) k) (h.each y a.1.0)
 
 pub map-ranks : (n : ℕ) (stay ranks xs : List ℕ) → AreRanks n stay ranks → AllByRecursion (λ a. a < n) xs → map (λ a. get_or ranks a 0) xs ≡ map (rank stay) xs
 map-ranks n stay ranks [] h a = refl
@@ -237,14 +225,14 @@ map-ranks n stay ranks (x ∷ xs) h a = ap (λ (k : ℕ). k ∷ map (λ b. get_o
 -- one cell more: it is kept where it stays, with the ranks of what it reads
 pub kept-next : (net : CellNet) → AreCells net → (i : ℕ) (ranks : List ℕ) (marks : List Bool) (before later : List Cell) → i < length net.cells →
     AreRanks i (stay_of net) ranks → AreMarks (length net.cells) (stay_of net) marks → before ≡ kept_before net i →
-    later ≡ (if get_or marks i false then before ++ renumbered (λ a. get_or ranks a 0) (cell_at net.cells i) ∷ [] else before) → later ≡ kept_before net (i + 1)
+    later ≡ (if get_or marks i false then before ++ with_numbers (λ a. get_or ranks a 0) (cell_at net.cells i) ∷ [] else before) → later ≡ kept_before net (i + 1)
 kept-next net h i ranks marks before later l are marked_ones is e =
     e ∙ by (get_or marks i false) (sym (marked_ones.each i l))
   where
-    by : (b : Bool) → has (stay_of net) i ≡ b → (if b then before ++ renumbered (λ a. get_or ranks a 0) (cell_at net.cells i) ∷ [] else before) ≡ kept_before net (i + 1)
+    by : (b : Bool) → has (stay_of net) i ≡ b → (if b then before ++ with_numbers (λ a. get_or ranks a 0) (cell_at net.cells i) ∷ [] else before) ≡ kept_before net (i + 1)
     by true on =
-        ap (λ (cs : List Cell). cs ++ renumbered (λ a. get_or ranks a 0) (cell_at net.cells i) ∷ []) is
-        ∙ kept-has net i (renumbered (λ a. get_or ranks a 0) (cell_at net.cells i)) on (renumbered-same i (stay_of net) ranks (cell_at net.cells i) are (h.reads i))
+        ap (λ (cs : List Cell). cs ++ with_numbers (λ a. get_or ranks a 0) (cell_at net.cells i) ∷ []) is
+        ∙ kept-has net i (with_numbers (λ a. get_or ranks a 0) (cell_at net.cells i)) on (with_numbers-same i (stay_of net) ranks (cell_at net.cells i) are (h.reads i))
     by false off = is ∙ kept-lacks net i off
 
 pub ranks-begin : (net : CellNet) (ranks : List ℕ) → ranks ≡ [] → AreRanks 0 (stay_of net) ranks
@@ -255,12 +243,12 @@ pub ranks-next : (net : CellNet) (i : ℕ) (ranks later : List ℕ) (before : Li
 ranks-next net i ranks later before are is e =
     subst (AreRanks (i + 1) (stay_of net)) (sym e) (ranks-push i (length before) (stay_of net) ranks are (ap length is ∙ kept-length net i))
 
-pub all-kept : (net : CellNet) (i : ℕ) (cells : List Cell) → i ≡ length net.cells → cells ≡ kept_before net i → cells ≡ (kept net (stay_of net)).cells
+pub all-kept : (net : CellNet) (i : ℕ) (cells : List Cell) → i ≡ length net.cells → cells ≡ kept_before net i → cells ≡ cone_cells net
 all-kept net i cells e f = f ∙ (ap (kept_before net) e ∙ kept-all net)
 
-pub dropped-is : (net : CellNet) (cells : List Cell) (ranks outputs : List ℕ) → AreCells net → cells ≡ (kept net (stay_of net)).cells →
-    AreRanks (length net.cells) (stay_of net) ranks → outputs ≡ map (λ a. get_or ranks a 0) net.outputs → cell_net cells outputs ≡ dropped net
-unfolding dropped
-dropped-is net cells ranks outputs h is are e =
+pub cone_of-is : (net : CellNet) (cells : List Cell) (ranks outputs : List ℕ) → AreCells net → cells ≡ cone_cells net →
+    AreRanks (length net.cells) (stay_of net) ranks → outputs ≡ map (λ a. get_or ranks a 0) net.outputs → cell_net cells outputs ≡ cone_of net
+unfolding cone_of
+cone_of-is net cells ranks outputs h is are e =
     ap (λ (cs : List Cell). cell_net cs outputs) is
-    ∙ ap (λ (os : List ℕ). cell_net (kept net (stay_of net)).cells os) (e ∙ map-ranks (length net.cells) (stay_of net) ranks net.outputs are h.outputs)
+    ∙ ap (λ (os : List ℕ). cell_net (cone_cells net) os) (e ∙ map-ranks (length net.cells) (stay_of net) ranks net.outputs are h.outputs)

@@ -1,10 +1,9 @@
 -- How many items of a list pass a test.
 use Rattle.std.proofs.Common.{◌≡◌, ℕ, zero, suc, ◌+◌, ◌<◌, ◌==◌, nat_lt, Bool, true, false, cond, ◌&&◌, if◌then◌else◌, List, [], ◌∷◌, ◌++◌, length, map, refl, sym, ◌∙◌, ap, ap₂, arith, inl, inr}
 use Rattle.std.specs.List.{filter, AllByRecursion}
+use Rattle.std.proofs.Math.Bool.{and-true}
 use Rattle.std.proofs.lemmas.Bool.{cases_order, eq-eqb, ne_eqb, lt-ltb, le-ltb}
-
-abbrev pub one_if : Bool → ℕ
-one_if b = if b then 1 else 0
+use Rattle.bx_network.specs.Networks.{one_if}
 
 abbrev pub tally : {X : Type 0} → (X → Bool) → List X → ℕ
 tally p [] = 0
@@ -70,6 +69,14 @@ one_below b u i =
         | inr g ↦ rw (le-ltb u (suc i) (omega arith), le-ltb u i (omega arith), ne_eqb u i (λ e. omega arith)) refl
       ]
     ]
+
+pub one_next : (u i : ℕ) → one_if (nat_lt u (suc i)) ≡ one_if (nat_lt u i) + one_if (u == i)
+one_next u i =
+    let e = one_below true u i in
+    let a = ap one_if (and-true (nat_lt u (suc i))) in
+    let b = ap one_if (and-true (nat_lt u i)) in
+    let c = ap one_if (and-true (u == i)) in
+    omega (arith, e, a, b, c)
 
 -- items sorted by a number: those of all numbers below one, together
 pub tally-below : {X : Type 0} (key : X → ℕ) (q : X → Bool) (xs : List X) (n : ℕ) →

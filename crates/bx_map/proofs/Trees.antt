@@ -5,16 +5,17 @@ use Rattle.std.proofs.Math.Nat.{pow-suc}
 use Rattle.std.proofs.lemmas.Bool.{cases_lt, lt-ltb, le-ltb}
 use Rattle.std.proofs.lemmas.List.{get_or_default, append_assoc, append-nil, length-take, take-append-drop}
 use Rattle.bx_network.specs.declared.node.Edge.{Edge}
+use Rattle.bx_logic.proofs.Lists.{all-first, all-second}
 use Rattle.bx_map.specs.declared.cell.Target.{Target}
 use Rattle.bx_map.specs.declared.consumer.Consumer.{Consumer}
 use Rattle.bx_map.specs.declared.consumer.Consumer.TheVariants.{Output}
 use Rattle.bx_map.specs.Cells.{CellNet}
-use Rattle.bx_map.specs.FanOuts.{FanOut, direct, fan, half, fan_out, tree_of}
+use Rattle.bx_map.specs.FanOuts.{FanOut, direct, fan, half, tree_within, tree_of}
 use Rattle.bx_map.specs.Numbers.{edge_to, fans, place, entry, fan_edges}
-use Rattle.bx_map.proofs.Numbering.{fans-leaves, leaves-fan_out, all-first, all-second}
+use Rattle.bx_map.proofs.Numbering.{fans-leaves, leaves-tree_within}
 
-fuel-same : (k m : ℕ) (cs : List Consumer) → length cs ≤ suc k → length cs ≤ suc m → fan_out k cs ≡ fan_out m cs
-unfolding fan_out
+fuel-same : (k m : ℕ) (cs : List Consumer) → length cs ≤ suc k → length cs ≤ suc m → tree_within k cs ≡ tree_within m cs
+unfolding tree_within
 fuel-same zero zero cs a b = refl
 fuel-same zero (suc m) cs a b = rw (le-ltb 1 (length cs) (omega arith)) refl
 fuel-same (suc k) zero cs a b = rw (le-ltb 1 (length cs) (omega arith)) refl
@@ -29,12 +30,12 @@ fuel-same (suc k) (suc m) cs a b =
     ]
 
 tree-step : (k : ℕ) (cs : List Consumer) → length cs ≡ suc k → 1 < length cs → tree_of cs ≡ fan (tree_of (take (half (length cs)) cs)) (tree_of (drop (half (length cs)) cs))
-unfolding fan_out
+unfolding tree_within
 tree-step k cs e more =
     let x : length (take (half (length cs)) cs) ≡ half (length cs) = length-take (half (length cs)) cs ∙ omega arith in
     let y = length-drop (half (length cs)) cs in
-    let step : fan_out (suc k) cs ≡ fan (fan_out k (take (half (length cs)) cs)) (fan_out k (drop (half (length cs)) cs)) = rw (lt-ltb 1 (length cs) more) refl in
-    ap (λ (n : ℕ). fan_out n cs) e
+    let step : tree_within (suc k) cs ≡ fan (tree_within k (take (half (length cs)) cs)) (tree_within k (drop (half (length cs)) cs)) = rw (lt-ltb 1 (length cs) more) refl in
+    ap (λ (n : ℕ). tree_within n cs) e
     ∙ (step
     ∙ ap₂ fan
     (fuel-same k (length (take (half (length cs)) cs)) (take (half (length cs)) cs) (omega (arith, x)) (omega arith))
@@ -45,13 +46,13 @@ tree-many [] more = absurd (omega arith)
 tree-many (c ∷ cs) more = tree-step (length cs) (c ∷ cs) refl more
 
 pub tree-one : (cs : List Consumer) → length cs ≡ 1 → tree_of cs ≡ direct (get_or cs 0 (Output 0))
-unfolding fan_out
+unfolding tree_within
 tree-one [] e = absurd (omega arith)
 tree-one (c ∷ []) e = refl
 tree-one (c ∷ d ∷ cs) e = absurd (omega arith)
 
 tree-fans : (cs : List Consumer) → 0 < length cs → length (fans (tree_of cs)) + 1 ≡ length cs
-tree-fans cs l = fans-leaves (tree_of cs) ∙ ap length (leaves-fan_out (length cs) cs l (omega arith))
+tree-fans cs l = fans-leaves (tree_of cs) ∙ ap length (leaves-tree_within (length cs) cs l (omega arith))
 
 pub entry-one : (net : CellNet) (v : ℕ) (cs : List Consumer) (d : Consumer) (target : Target) → length cs ≡ 1 → target ≡ place net (get_or cs 0 d) → target ≡ entry net v (tree_of cs)
 entry-one net v cs d target e at = at ∙ (ap (place net) (get_or_default cs 0 d (Output 0) (omega arith)) ∙ sym (ap (entry net v) (tree-one cs e)))

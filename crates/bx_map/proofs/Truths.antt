@@ -8,13 +8,13 @@ use Rattle.bx_logic.specs.declared.op.Op.TheVariants.{Buf, Not, And, Or, Nand, N
 use Rattle.bx_logic.specs.Op.{op_value, parity}
 use Rattle.bx_logic.specs.Values.{value_of}
 use Rattle.bx_forms.specs.Kinds.{gives}
+use Rattle.std.proofs.Math.Seq.{take-suc}
 use Rattle.bx_map.specs.declared.cell.Cell.{Cell}
 use Rattle.bx_map.specs.declared.cell.Cell.TheVariants as cell
 use Rattle.bx_map.specs.declared.cell.Value.{Value}
 use Rattle.bx_map.specs.declared.cell.Value.TheVariants.{Constant, Signal}
 use Rattle.bx_map.specs.Cells.{cell_at, operands_of, ReadsEarlier}
-use Rattle.bx_map.specs.Folds.{Folded, folded, with_cell, inverted, gate_kind, with_constant, combined, plain, single, chained, gate_folded}
-use Rattle.bx_map.proofs.Numbering.{take_next}
+use Rattle.bx_map.specs.Folds.{Fold, fold_of, with_cell, inverse_of, gate_kind, with_constant, combination_of, plain_op, single_fold, chain_of, gate_fold}
 use Rattle.bx_map.proofs.Folding.{IsWithin, within-more}
 
 abbrev pub cell_truth : List Bool → List Bool → Cell → Bool
@@ -22,38 +22,38 @@ cell_truth bits known (cell.Input port) = value_of bits port
 cell_truth bits known (cell.Not a) = not (value_of known a)
 cell_truth bits known (cell.Gate kind a b) = gives kind (value_of known a ∷ value_of known b ∷ []) 0
 
-abbrev grown : List Bool → List Bool → Cell → List Bool
-grown bits known c = known ++ cell_truth bits known c ∷ []
+abbrev with_truth : List Bool → List Bool → Cell → List Bool
+with_truth bits known c = known ++ cell_truth bits known c ∷ []
 
 pub truths : List Bool → List Cell → List Bool
-truths bits cells = fold (grown bits) [] cells
+truths bits cells = fold (with_truth bits) [] cells
 
 truths-next : (bits : List Bool) (cells : List Cell) (c : Cell) → truths bits (cells ++ c ∷ []) ≡ truths bits cells ++ cell_truth bits (truths bits cells) c ∷ []
 unfolding truths
-truths-next bits cells c = fold-append (grown bits) [] cells (c ∷ [])
+truths-next bits cells c = fold-append (with_truth bits) [] cells (c ∷ [])
 
-length-grown : (bits known : List Bool) (cells : List Cell) → length (fold (grown bits) known cells) ≡ length known + length cells
-length-grown bits known [] = omega arith
-length-grown bits known (c ∷ cs) =
-    let rest = length-grown bits (grown bits known c) cs in
+length-with_truth : (bits known : List Bool) (cells : List Cell) → length (fold (with_truth bits) known cells) ≡ length known + length cells
+length-with_truth bits known [] = omega arith
+length-with_truth bits known (c ∷ cs) =
+    let rest = length-with_truth bits (with_truth bits known c) cs in
     let here = length-append known (cell_truth bits known c ∷ []) in
     omega (arith, rest, here)
 
 pub length-truths : (bits : List Bool) (cells : List Cell) → length (truths bits cells) ≡ length cells
 unfolding truths
-length-truths bits cells = let e = length-grown bits [] cells in omega (arith, e)
+length-truths bits cells = let e = length-with_truth bits [] cells in omega (arith, e)
 
-grown-keeps : (bits known : List Bool) (cells : List Cell) (a : ℕ) → a < length known → value_of (fold (grown bits) known cells) a ≡ value_of known a
-grown-keeps bits known [] a l = refl
-grown-keeps bits known (c ∷ cs) a l =
+with_truth-keeps : (bits known : List Bool) (cells : List Cell) (a : ℕ) → a < length known → value_of (fold (with_truth bits) known cells) a ≡ value_of known a
+with_truth-keeps bits known [] a l = refl
+with_truth-keeps bits known (c ∷ cs) a l =
     let longer = length-append known (cell_truth bits known c ∷ []) in
-    grown-keeps bits (grown bits known c) cs a (omega (arith, longer)) ∙ get_or_append_left known (cell_truth bits known c ∷ []) false a l
+    with_truth-keeps bits (with_truth bits known c) cs a (omega (arith, longer)) ∙ get_or_append_left known (cell_truth bits known c ∷ []) false a l
 
 pub truths-prefix : (bits : List Bool) (xs ys : List Cell) (a : ℕ) → a < length xs → value_of (truths bits (xs ++ ys)) a ≡ value_of (truths bits xs) a
 unfolding truths
 truths-prefix bits xs ys a l =
-    let long = length-grown bits [] xs in
-    ap (λ (ts : List Bool). value_of ts a) (fold-append (grown bits) [] xs ys) ∙ grown-keeps bits (fold (grown bits) [] xs) ys a (omega (arith, long))
+    let long = length-with_truth bits [] xs in
+    ap (λ (ts : List Bool). value_of ts a) (fold-append (with_truth bits) [] xs ys) ∙ with_truth-keeps bits (fold (with_truth bits) [] xs) ys a (omega (arith, long))
 
 truth-new : (bits : List Bool) (cells : List Cell) (c : Cell) → value_of (truths bits (cells ++ c ∷ [])) (length cells) ≡ cell_truth bits (truths bits cells) c
 truth-new bits cells c =
@@ -79,7 +79,7 @@ truth-at bits cells earlier j l =
     let first : List Cell = take j cells in
     let many : length first ≡ j = length-take j cells ∙ omega arith in
     let split : first ++ drop j cells ≡ cells = take-append-drop j cells in
-    let next : take (suc j) cells ≡ first ++ c ∷ [] = take_next cells j (cell.Input 0) l in
+    let next : take (suc j) cells ≡ first ++ c ∷ [] = take-suc cells j (cell.Input 0) l in
     let more : take (suc j) cells ++ drop (suc j) cells ≡ cells = take-append-drop (suc j) cells in
     let long : length (take (suc j) cells) ≡ suc j = length-take (suc j) cells ∙ omega arith in
     ap (λ (cs : List Cell). value_of (truths bits cs) j) (sym more)
@@ -99,12 +99,12 @@ abbrev pub means : List Bool → List Cell → Value → Bool
 means bits cells v = meaning (truths bits cells) v
 
 -- the value of what was folded, where earlier values keep theirs
-pub record IsTrueOf (bits : List Bool) (cells : List Cell) (f : Folded) (b : Bool) : Type 0 where
+pub record IsTrueOf (bits : List Bool) (cells : List Cell) (f : Fold) (b : Bool) : Type 0 where
   pub value : means bits f.cells f.value ≡ b
   pub keeps : (v : Value) → IsWithin (length cells) v → means bits f.cells v ≡ means bits cells v
   pub longer : length cells ≤ length f.cells
 
-true-same : (bits : List Bool) (cells : List Cell) (v : Value) (b : Bool) → means bits cells v ≡ b → IsTrueOf bits cells (folded v cells) b
+true-same : (bits : List Bool) (cells : List Cell) (v : Value) (b : Bool) → means bits cells v ≡ b → IsTrueOf bits cells (fold_of v cells) b
 true-same bits cells v b e = record { value = e; keeps = λ w h. refl; longer = omega arith }
 
 keeps-with : (bits : List Bool) (cells : List Cell) (c : Cell) (v : Value) → IsWithin (length cells) v → means bits (cells ++ c ∷ []) v ≡ means bits cells v
@@ -118,9 +118,9 @@ true-with bits cells c b e = record {
   longer = omega (arith, length-append cells (c ∷ []));
 }
 
-true-inverted : (bits : List Bool) (cells : List Cell) (v : Value) (b : Bool) → not (means bits cells v) ≡ b → IsTrueOf bits cells (inverted cells v) b
-true-inverted bits cells (Constant c) b e = true-same bits cells (Constant (not c)) b e
-true-inverted bits cells (Signal a) b e = true-with bits cells (cell.Not a) b e
+true-inverse_of : (bits : List Bool) (cells : List Cell) (v : Value) (b : Bool) → not (means bits cells v) ≡ b → IsTrueOf bits cells (inverse_of cells v) b
+true-inverse_of bits cells (Constant c) b e = true-same bits cells (Constant (not c)) b e
+true-inverse_of bits cells (Signal a) b e = true-with bits cells (cell.Not a) b e
 
 abbrev pub pair : Op → Bool → Bool → Bool
 pair op x y = op_value op (x ∷ y ∷ [])
@@ -129,12 +129,7 @@ pair op x y = op_value op (x ∷ y ∷ [])
 abbrev pub IsProper : Op → Type 0
 IsProper Buf = ⊥
 IsProper Not = ⊥
-IsProper And = Unit {0}
-IsProper Or = Unit {0}
-IsProper Nand = Unit {0}
-IsProper Nor = Unit {0}
-IsProper Xor = Unit {0}
-IsProper Xnor = Unit {0}
+IsProper op = Unit {0}
 
 by_cases : (P : Bool → Type 0) → P true → P false → (b : Bool) → P b
 by_cases P t f true = t
@@ -144,27 +139,19 @@ true-constant : (bits : List Bool) (op : Op) (b : Bool) (cells : List Cell) (v :
 true-constant bits And false cells v p = true-same bits cells (Constant false) _ refl
 true-constant bits And true cells v p = true-same bits cells v _ (by_cases (λ y. y ≡ pair And true y) refl refl (means bits cells v))
 true-constant bits Nand false cells v p = true-same bits cells (Constant true) _ refl
-true-constant bits Nand true cells v p = true-inverted bits cells v _ (by_cases (λ y. not y ≡ pair Nand true y) refl refl (means bits cells v))
 true-constant bits Or true cells v p = true-same bits cells (Constant true) _ refl
 true-constant bits Or false cells v p = true-same bits cells v _ (by_cases (λ y. y ≡ pair Or false y) refl refl (means bits cells v))
 true-constant bits Nor true cells v p = true-same bits cells (Constant false) _ refl
-true-constant bits Nor false cells v p = true-inverted bits cells v _ (by_cases (λ y. not y ≡ pair Nor false y) refl refl (means bits cells v))
 true-constant bits Xor false cells v p = true-same bits cells v _ (by_cases (λ y. y ≡ pair Xor false y) refl refl (means bits cells v))
-true-constant bits Xor true cells v p = true-inverted bits cells v _ (by_cases (λ y. not y ≡ pair Xor true y) refl refl (means bits cells v))
 true-constant bits Xnor true cells v p = true-same bits cells v _ (by_cases (λ y. y ≡ pair Xnor true y) refl refl (means bits cells v))
-true-constant bits Xnor false cells v p = true-inverted bits cells v _ (by_cases (λ y. not y ≡ pair Xnor false y) refl refl (means bits cells v))
 true-constant bits Buf b cells v p = absurd p
 true-constant bits Not b cells v p = absurd p
+true-constant bits op b cells v p = true-inverse_of bits cells v _ (by_cases (λ y. not y ≡ pair op b y) refl refl (means bits cells v))
 
 gate-gives : (op : Op) (x y : Bool) → IsProper op → gives (gate_kind op) (x ∷ y ∷ []) 0 ≡ pair op x y
-gate-gives And x y p = refl
-gate-gives Or x y p = refl
-gate-gives Nand x y p = refl
-gate-gives Nor x y p = refl
-gate-gives Xor x y p = refl
-gate-gives Xnor x y p = refl
 gate-gives Buf x y p = absurd p
 gate-gives Not x y p = absurd p
+gate-gives op x y p = refl
 
 each_pair : (P : Bool → Bool → Type 0) → P true true → P true false → P false true → P false false → (x y : Bool) → P x y
 each_pair P a b c d true true = a
@@ -173,90 +160,74 @@ each_pair P a b c d false true = c
 each_pair P a b c d false false = d
 
 pair-turned : (op : Op) (x y : Bool) → IsProper op → pair op x y ≡ pair op y x
-pair-turned And x y p = each_pair (λ a b. pair And a b ≡ pair And b a) refl refl refl refl x y
-pair-turned Or x y p = each_pair (λ a b. pair Or a b ≡ pair Or b a) refl refl refl refl x y
-pair-turned Nand x y p = each_pair (λ a b. pair Nand a b ≡ pair Nand b a) refl refl refl refl x y
-pair-turned Nor x y p = each_pair (λ a b. pair Nor a b ≡ pair Nor b a) refl refl refl refl x y
-pair-turned Xor x y p = each_pair (λ a b. pair Xor a b ≡ pair Xor b a) refl refl refl refl x y
-pair-turned Xnor x y p = each_pair (λ a b. pair Xnor a b ≡ pair Xnor b a) refl refl refl refl x y
 pair-turned Buf x y p = absurd p
 pair-turned Not x y p = absurd p
+pair-turned op x y p = each_pair (λ a b. pair op a b ≡ pair op b a) refl refl refl refl x y
 
-true-combined : (bits : List Bool) (op : Op) (cells : List Cell) (v w : Value) → IsProper op → IsTrueOf bits cells (combined op cells v w) (pair op (means bits cells v) (means bits cells w))
-true-combined bits op cells (Signal a) (Signal b) p =
+true-combination_of : (bits : List Bool) (op : Op) (cells : List Cell) (v w : Value) → IsProper op → IsTrueOf bits cells (combination_of op cells v w) (pair op (means bits cells v) (means bits cells w))
+true-combination_of bits op cells (Signal a) (Signal b) p =
     true-with bits cells (cell.Gate (gate_kind op) a b) _ (gate-gives op (means bits cells (Signal a)) (means bits cells (Signal b)) p)
-true-combined bits op cells (Signal a) (Constant b) p =
+true-combination_of bits op cells (Signal a) (Constant b) p =
     subst (IsTrueOf bits cells (with_constant op b cells (Signal a))) (pair-turned op b (means bits cells (Signal a)) p) (true-constant bits op b cells (Signal a) p)
-true-combined bits op cells (Constant a) (Signal b) p = true-constant bits op a cells (Signal b) p
-true-combined bits op cells (Constant a) (Constant b) p = true-constant bits op a cells (Constant b) p
+true-combination_of bits op cells (Constant a) (Signal b) p = true-constant bits op a cells (Signal b) p
+true-combination_of bits op cells (Constant a) (Constant b) p = true-constant bits op a cells (Constant b) p
 
-true-single : (bits : List Bool) (op : Op) (cells : List Cell) (v : Value) → IsTrueOf bits cells (single op cells v) (op_value op (means bits cells v ∷ []))
-true-single bits Not cells v = true-inverted bits cells v _ refl
-true-single bits Nand cells v = true-inverted bits cells v _ (by_cases (λ y. not y ≡ op_value Nand (y ∷ [])) refl refl (means bits cells v))
-true-single bits Nor cells v = true-inverted bits cells v _ (by_cases (λ y. not y ≡ op_value Nor (y ∷ [])) refl refl (means bits cells v))
-true-single bits Xnor cells v = true-inverted bits cells v _ (by_cases (λ y. not y ≡ op_value Xnor (y ∷ [])) refl refl (means bits cells v))
-true-single bits Buf cells v = true-same bits cells v _ refl
-true-single bits And cells v = true-same bits cells v _ (by_cases (λ y. y ≡ op_value And (y ∷ [])) refl refl (means bits cells v))
-true-single bits Or cells v = true-same bits cells v _ (by_cases (λ y. y ≡ op_value Or (y ∷ [])) refl refl (means bits cells v))
-true-single bits Xor cells v = true-same bits cells v _ (by_cases (λ y. y ≡ op_value Xor (y ∷ [])) refl refl (means bits cells v))
+true-single_fold : (bits : List Bool) (op : Op) (cells : List Cell) (v : Value) → IsTrueOf bits cells (single_fold op cells v) (op_value op (means bits cells v ∷ []))
+true-single_fold bits Not cells v = true-inverse_of bits cells v _ refl
+true-single_fold bits Nand cells v = true-inverse_of bits cells v _ (by_cases (λ y. not y ≡ op_value Nand (y ∷ [])) refl refl (means bits cells v))
+true-single_fold bits Nor cells v = true-inverse_of bits cells v _ (by_cases (λ y. not y ≡ op_value Nor (y ∷ [])) refl refl (means bits cells v))
+true-single_fold bits Xnor cells v = true-inverse_of bits cells v _ (by_cases (λ y. not y ≡ op_value Xnor (y ∷ [])) refl refl (means bits cells v))
+true-single_fold bits op cells v = true-same bits cells v _ (by_cases (λ y. y ≡ op_value op (y ∷ [])) refl refl (means bits cells v))
 
 -- a gate's arguments combined one after the other
 
 abbrev chain_bits : Op → Bool → List Bool → Bool
 chain_bits op x [] = x
 chain_bits op x (y ∷ []) = pair op x y
-chain_bits op x (y ∷ z ∷ ys) = chain_bits op (pair (plain op) x y) (z ∷ ys)
+chain_bits op x (y ∷ z ∷ ys) = chain_bits op (pair (plain_op op) x y) (z ∷ ys)
 
-merged : (op : Op) (x y : Bool) (rest : List Bool) → IsProper op → op_value op (pair (plain op) x y ∷ rest) ≡ op_value op (x ∷ y ∷ rest)
-merged And x y rest p = each_pair (λ a b. op_value And (pair And a b ∷ rest) ≡ op_value And (a ∷ b ∷ rest)) refl refl refl refl x y
-merged Nand x y rest p = each_pair (λ a b. op_value Nand (pair And a b ∷ rest) ≡ op_value Nand (a ∷ b ∷ rest)) refl refl refl refl x y
-merged Or x y rest p = each_pair (λ a b. op_value Or (pair Or a b ∷ rest) ≡ op_value Or (a ∷ b ∷ rest)) refl refl refl refl x y
-merged Nor x y rest p = each_pair (λ a b. op_value Nor (pair Or a b ∷ rest) ≡ op_value Nor (a ∷ b ∷ rest)) refl refl refl refl x y
+merged : (op : Op) (x y : Bool) (rest : List Bool) → IsProper op → op_value op (pair (plain_op op) x y ∷ rest) ≡ op_value op (x ∷ y ∷ rest)
 merged Xor x y rest p =
     each_pair (λ a b. op_value Xor (pair Xor a b ∷ rest) ≡ op_value Xor (a ∷ b ∷ rest)) (by_cases (λ r. r ≡ not (not r)) refl refl (parity rest)) refl refl refl x y
 merged Xnor x y rest p =
     each_pair (λ a b. op_value Xnor (pair Xor a b ∷ rest) ≡ op_value Xnor (a ∷ b ∷ rest)) (by_cases (λ r. not r ≡ not (not (not r))) refl refl (parity rest)) refl refl refl x y
 merged Buf x y rest p = absurd p
 merged Not x y rest p = absurd p
+merged op x y rest p = each_pair (λ a b. op_value op (pair (plain_op op) a b ∷ rest) ≡ op_value op (a ∷ b ∷ rest)) refl refl refl refl x y
 
 chain-is : (op : Op) (x y : Bool) (ys : List Bool) → IsProper op → chain_bits op x (y ∷ ys) ≡ op_value op (x ∷ y ∷ ys)
 chain-is op x y [] p = refl
-chain-is op x y (z ∷ ys) p = chain-is op (pair (plain op) x y) z ys p ∙ merged op x y (z ∷ ys) p
+chain-is op x y (z ∷ ys) p = chain-is op (pair (plain_op op) x y) z ys p ∙ merged op x y (z ∷ ys) p
 
-plain-proper : (op : Op) → IsProper op → IsProper (plain op)
-plain-proper And p = tt
-plain-proper Or p = tt
-plain-proper Nand p = tt
-plain-proper Nor p = tt
-plain-proper Xor p = tt
-plain-proper Xnor p = tt
-plain-proper Buf p = p
-plain-proper Not p = p
+plain_op-proper : (op : Op) → IsProper op → IsProper (plain_op op)
+plain_op-proper Buf p = p
+plain_op-proper Not p = p
+plain_op-proper op p = tt
 
 -- one combination more
-true-step : (bits : List Bool) (op : Op) (cells : List Cell) (f : Folded) (v : Value) (x : Bool) → IsProper op → IsTrueOf bits cells f x → IsWithin (length cells) v →
-    IsTrueOf bits cells (combined op f.cells f.value v) (pair op x (means bits cells v))
+true-step : (bits : List Bool) (op : Op) (cells : List Cell) (f : Fold) (v : Value) (x : Bool) → IsProper op → IsTrueOf bits cells f x → IsWithin (length cells) v →
+    IsTrueOf bits cells (combination_of op f.cells f.value v) (pair op x (means bits cells v))
 true-step bits op cells f v x p h w =
-    let next = true-combined bits op f.cells f.value v p in
+    let next = true-combination_of bits op f.cells f.value v p in
     record {
       value = next.value ∙ ap₂ (pair op) h.value (h.keeps v w);
       keeps = λ u k. next.keeps u (within-more (length cells) (length f.cells) u h.longer k) ∙ h.keeps u k;
       longer = omega (arith, h.longer, next.longer);
     }
 
-true-chained : (bits : List Bool) (op : Op) (cells : List Cell) (f : Folded) (vs : List Value) (x : Bool) → IsProper op → IsTrueOf bits cells f x →
-    AllByRecursion (IsWithin (length cells)) vs → IsTrueOf bits cells (chained op f vs) (chain_bits op x (map (means bits cells) vs))
-true-chained bits op cells f [] x p h w = h
-true-chained bits op cells f (v ∷ []) x p h w = true-step bits op cells f v x p h w.0
-true-chained bits op cells f (v ∷ u ∷ vs) x p h w =
-    true-chained bits op cells (combined (plain op) f.cells f.value v) (u ∷ vs) (pair (plain op) x (means bits cells v)) p
-    (true-step bits (plain op) cells f v x (plain-proper op p) h w.0) w.1
+true-chain_of : (bits : List Bool) (op : Op) (cells : List Cell) (f : Fold) (vs : List Value) (x : Bool) → IsProper op → IsTrueOf bits cells f x →
+    AllByRecursion (IsWithin (length cells)) vs → IsTrueOf bits cells (chain_of op f vs) (chain_bits op x (map (means bits cells) vs))
+true-chain_of bits op cells f [] x p h w = h
+true-chain_of bits op cells f (v ∷ []) x p h w = true-step bits op cells f v x p h w.0
+true-chain_of bits op cells f (v ∷ u ∷ vs) x p h w =
+    true-chain_of bits op cells (combination_of (plain_op op) f.cells f.value v) (u ∷ vs) (pair (plain_op op) x (means bits cells v)) p
+    (true-step bits (plain_op op) cells f v x (plain_op-proper op p) h w.0) w.1
 
 pub true-gate : (bits : List Bool) (op : Op) (cells : List Cell) (vs : List Value) → 0 < length vs → (1 < length vs → IsProper op) → AllByRecursion (IsWithin (length cells)) vs →
-    IsTrueOf bits cells (gate_folded op cells vs) (op_value op (map (means bits cells) vs))
+    IsTrueOf bits cells (gate_fold op cells vs) (op_value op (map (means bits cells) vs))
 true-gate bits op cells [] l p w = absurd (omega arith)
-true-gate bits op cells (v ∷ []) l p w = true-single bits op cells v
+true-gate bits op cells (v ∷ []) l p w = true-single_fold bits op cells v
 true-gate bits op cells (v ∷ u ∷ vs) l p w =
     let proper = p (omega arith) in
-    subst (IsTrueOf bits cells (chained op (folded v cells) (u ∷ vs))) (chain-is op (means bits cells v) (means bits cells u) (map (means bits cells) vs) proper)
-    (true-chained bits op cells (folded v cells) (u ∷ vs) (means bits cells v) proper (true-same bits cells v (means bits cells v) refl) w.1)
+    subst (IsTrueOf bits cells (chain_of op (fold_of v cells) (u ∷ vs))) (chain-is op (means bits cells v) (means bits cells u) (map (means bits cells) vs) proper)
+    (true-chain_of bits op cells (fold_of v cells) (u ∷ vs) (means bits cells v) proper (true-same bits cells v (means bits cells v) refl) w.1)

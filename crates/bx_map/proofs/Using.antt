@@ -1,12 +1,13 @@
 -- Uses of a net in cells, one cell and one output after the other.
 use Rattle.std.proofs.Common.{◌≡◌, ℕ, suc, ◌+◌, ◌<◌, List, [], ◌∷◌, ◌++◌, length, take, get_or, sym, ◌∙◌, ap, ap₂, arith}
 use Rattle.std.proofs.lemmas.List.{append_assoc, length-take}
+use Rattle.std.proofs.Math.Seq.{take-suc}
 use Rattle.bx_map.specs.declared.cell.Cell.{Cell}
 use Rattle.bx_map.specs.declared.consumer.Consumer.TheVariants.{Output}
 use Rattle.bx_map.specs.declared.consumer.Use.{Use}
 use Rattle.bx_map.specs.Cells.{CellNet, cell_at, operands_of}
 use Rattle.bx_map.specs.FanOuts.{use_of, operand_uses, cell_uses, output_uses, uses}
-use Rattle.bx_map.proofs.Numbering.{take_next, cell_uses-next}
+use Rattle.bx_map.proofs.Numbering.{cell_uses-next}
 
 output_uses-append : (j : ℕ) (is : List ℕ) (i : ℕ) → output_uses j (is ++ i ∷ []) ≡ output_uses j is ++ use_of i (Output (j + length is)) ∷ []
 output_uses-append j [] i = ap (λ (p : ℕ). use_of i (Output p) ∷ []) (omega arith)
@@ -23,7 +24,7 @@ output_uses-more all now after outputs m i l e h f =
     ∙ (append_assoc all (output_uses 0 (take m outputs)) (use_of i (Output m) ∷ [])
     ∙ sym (ap (λ (us : List Use). all ++ us)
     (ap (λ (q : ℕ). output_uses 0 (take q outputs)) more
-    ∙ (ap (output_uses 0) (take_next outputs m 0 l)
+    ∙ (ap (output_uses 0) (take-suc outputs m 0 l)
     ∙ (output_uses-append 0 (take m outputs) (get_or outputs m 0)
     ∙ ap₂ (λ (q k : ℕ). output_uses 0 (take m outputs) ++ use_of k (Output q) ∷ []) many (sym e)))))))
 

@@ -8,12 +8,12 @@ use Rattle.std.proofs.lemmas.List.Sums.{sum_by-append, sum_by-drop_more}
 use Rattle.bx_logic.specs.declared.driver.Driver.{Driver}
 use Rattle.bx_logic.specs.Nets.{arguments_of, driver_at, IsAcyclic, Netlist, IsNet, output_nets}
 use Rattle.bx_logic.specs.Cycles.{ReadsNetsOnly}
-use Rattle.bx_logic.proofs.Acyclic.{all-weaker, IsSettled, settled}
+use Rattle.bx_logic.proofs.Acyclic.{IsShallow, shallow}
 use Rattle.bx_logic.proofs.Valuations.{cost, cost-is}
+use Rattle.bx_logic.proofs.Lists.{all-append, all-first, all-second, all-weaker}
 use Rattle.bx_map.specs.declared.walk.Frame.{Frame}
 use Rattle.bx_map.specs.Walks.{has, visit, walk}
 use Rattle.bx_map.specs.Marks.{AreMarks, frame_for}
-use Rattle.bx_map.proofs.Numbering.{all-append}
 use Rattle.bx_map.proofs.Walking.{visit-is, visit-was, arguments-within, Ordered, none, more, walk-visits}
 
 -- a net's depth doesn't matter where it is enough
@@ -28,14 +28,14 @@ fold-agree : (v w : Visit) (ns done : List ℕ) → AllByRecursion (Agree v w) n
 fold-agree v w [] done a = refl
 fold-agree v w (n ∷ ns) done a = fold-agree v w ns (v done n) a.1 ∙ ap (λ (xs : List ℕ). fold w xs ns) (a.0 done)
 
-visit-deeper : (drivers : List Driver) (k n : ℕ) → IsSettled drivers k n → Agree (visit drivers k) (visit drivers (suc k)) n
-unfolding IsSettled
+visit-deeper : (drivers : List Driver) (k n : ℕ) → IsShallow drivers k n → Agree (visit drivers k) (visit drivers (suc k)) n
+unfolding IsShallow
 visit-deeper drivers zero n s done = absurd s
 visit-deeper drivers (suc k) n s done =
     let args : List ℕ = arguments_of (driver_at drivers n) in
     let same : fold (visit drivers k) done args ≡ fold (visit drivers (suc k)) done args =
     fold-agree (visit drivers k) (visit drivers (suc k)) args done
-    (all-weaker (λ m. IsSettled drivers k m) (Agree (visit drivers k) (visit drivers (suc k))) (λ m t. visit-deeper drivers k m t) args s) in
+    (all-weaker (λ m. IsShallow drivers k m) (Agree (visit drivers k) (visit drivers (suc k))) (λ m t. visit-deeper drivers k m t) args s) in
     elim (cases_Bool (has done n)) [
       | inl was ↦ visit-was drivers k done n was ∙ sym (visit-was drivers (suc k) done n was)
       | inr new ↦ visit-is drivers k done n new ∙ (ap (λ (xs : List ℕ). xs ++ n ∷ []) same ∙ sym (visit-is drivers (suc k) done n new))
@@ -49,14 +49,14 @@ reads_of drivers n = arguments_of (driver_at drivers n)
 
 visit-new : (drivers : List Driver) → IsAcyclic drivers → ReadsNetsOnly drivers → (done : List ℕ) (n : ℕ) → has done n ≡ false →
     deep drivers done n ≡ fold (deep drivers) done (reads_of drivers n) ++ n ∷ []
-unfolding IsSettled
+unfolding IsShallow
 visit-new drivers acyclic within done n new =
     let N : ℕ = length drivers in
     visit-is drivers N done n new
     ∙ ap (λ (xs : List ℕ). xs ++ n ∷ [])
     (fold-agree (visit drivers N) (visit drivers (suc N)) (reads_of drivers n) done
-    (all-weaker (λ m. IsSettled drivers N m) (Agree (visit drivers N) (visit drivers (suc N))) (λ m t. visit-deeper drivers N m t) (reads_of drivers n)
-    (settled drivers acyclic within n)))
+    (all-weaker (λ m. IsShallow drivers N m) (Agree (visit drivers N) (visit drivers (suc N))) (λ m t. visit-deeper drivers N m t) (reads_of drivers n)
+    (shallow drivers acyclic within n)))
 
 -- the order once a frame is left, and once all are, the last one first
 
@@ -80,14 +80,6 @@ frame_cost drivers f = 1 + sum_by (cost drivers) (drop f.next (reads_of drivers 
 
 pub way_cost : List Driver → List Frame → ℕ
 way_cost drivers fs = sum_by (frame_cost drivers) fs
-
-all-left : (P : Frame → Type 0) (fs gs : List Frame) → AllByRecursion P (fs ++ gs) → AllByRecursion P fs
-all-left P [] gs a = tt
-all-left P (f ∷ fs) gs a = (a.0, all-left P fs gs a.1)
-
-all-right : (P : Frame → Type 0) (fs gs : List Frame) → AllByRecursion P (fs ++ gs) → AllByRecursion P gs
-all-right P [] gs a = a
-all-right P (f ∷ fs) gs a = all-right P fs gs a.1
 
 -- the frames are of nets, and lead from this order to that one
 pub record IsWay (drivers : List Driver) (order end : List ℕ) (way : List Frame) : Type 0 where
@@ -121,7 +113,7 @@ module _ (drivers : List Driver) (acyclic : IsAcyclic drivers) (reads : ReadsNet
 
   pub last-within : (order end : List ℕ) (way rest : List Frame) (f : Frame) → way ≡ rest ++ f ∷ [] → IsWay drivers order end way → f.net < length drivers
   last-within order end way rest f e h =
-      (all-right (λ g. g.net < length drivers) rest (f ∷ []) (subst (AllByRecursion (λ (g : Frame). g.net < length drivers)) e h.within)).0
+      (all-second (λ g. g.net < length drivers) rest (f ∷ []) (subst (AllByRecursion (λ (g : Frame). g.net < length drivers)) e h.within)).0
 
   pub read-within : (args : List ℕ) (n p a : ℕ) → args ≡ reads_of drivers n → p < length args → a ≡ get_or args p 0 → a < length drivers
   read-within args n p a is_args l is_a =
@@ -179,8 +171,8 @@ module _ (drivers : List Driver) (acyclic : IsAcyclic drivers) (reads : ReadsNet
       record {
         way = subst (IsWay drivers order end) (sym is) (record {
           within = all-append (λ g. g.net < length drivers) (rest ++ frame n (p + 1) ∷ []) (frame_for left b)
-              (all-append (λ g. g.net < length drivers) rest (frame n (p + 1) ∷ []) (all-left (λ g. g.net < length drivers) rest (f ∷ []) all)
-              ((all-right (λ g. g.net < length drivers) rest (f ∷ []) all).0, tt))
+              (all-append (λ g. g.net < length drivers) rest (frame n (p + 1) ∷ []) (all-first (λ g. g.net < length drivers) rest (f ∷ []) all)
+              ((all-second (λ g. g.net < length drivers) rest (f ∷ []) all).0, tt))
               (entered-within b (get_or left b false) there);
           ends = read-ends order left rest n p few there marks ∙ (sym (ap (finish drivers order) is_before) ∙ h.ends);
         });
@@ -198,7 +190,7 @@ module _ (drivers : List Driver) (acyclic : IsAcyclic drivers) (reads : ReadsNet
       ap (λ (xs : List ℕ). xs ++ f.net ∷ []) (at_drop_all (λ (xs : List ℕ). fold (deep drivers) order xs) (reads_of drivers f.net) f.next many) in
       subst (λ (xs : List ℕ). IsWay drivers xs end rest) (sym is_next)
       (record {
-        within = all-left (λ g. g.net < length drivers) rest (f ∷ []) (subst (AllByRecursion (λ (g : Frame). g.net < length drivers)) is_before h.within);
+        within = all-first (λ g. g.net < length drivers) rest (f ∷ []) (subst (AllByRecursion (λ (g : Frame). g.net < length drivers)) is_before h.within);
         ends = ap (λ (xs : List ℕ). finish drivers xs rest) (sym last) ∙ (sym (finish-append drivers order rest (f ∷ [])) ∙ (sym (ap (finish drivers order) is_before) ∙ h.ends));
       })
 

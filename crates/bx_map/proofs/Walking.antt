@@ -5,10 +5,10 @@ use Rattle.std.proofs.lemmas.Bool.{cases_Bool, cond-true, cond-false}
 use Rattle.bx_logic.specs.declared.driver.Driver.{Driver}
 use Rattle.bx_logic.specs.Nets.{arguments_of, driver_at, Reads, Netlist, IsNet, output_nets}
 use Rattle.bx_logic.specs.Cycles.{ReadsNetsOnly}
-use Rattle.bx_logic.proofs.Acyclic.{arguments-read, IsSettled, settled}
+use Rattle.bx_logic.proofs.Acyclic.{arguments-read, IsShallow, shallow}
 use Rattle.bx_logic.proofs.Valuations.{net-reads_within}
+use Rattle.bx_logic.proofs.Lists.{all-weaker}
 use Rattle.bx_map.specs.Walks.{has, visit, walk}
-use Rattle.bx_map.proofs.Numbering.{all-weaker}
 use Rattle.bx_map.proofs.Keeping.{Has, has-left, has-right, has-one}
 
 -- each net stands behind what it reads
@@ -23,9 +23,9 @@ pub record AreVisited (drivers : List Driver) (before after nets : List ℕ) : T
 
 abbrev pub Visits : List Driver → ℕ → Type 0
 Visits drivers k =
-    (done : List ℕ) (n : ℕ) → n < length drivers → IsSettled drivers k n → Ordered drivers done → AreVisited drivers done (visit drivers k done n) (n ∷ [])
+    (done : List ℕ) (n : ℕ) → n < length drivers → IsShallow drivers k n → Ordered drivers done → AreVisited drivers done (visit drivers k done n) (n ∷ [])
 
-visits-all : (drivers : List Driver) (k : ℕ) → Visits drivers k → (done nets : List ℕ) → AllByRecursion (λ m. m < length drivers) nets → AllByRecursion (IsSettled drivers k) nets →
+visits-all : (drivers : List Driver) (k : ℕ) → Visits drivers k → (done nets : List ℕ) → AllByRecursion (λ m. m < length drivers) nets → AllByRecursion (IsShallow drivers k) nets →
     Ordered drivers done → AreVisited drivers done (fold (visit drivers k) done nets) nets
 visits-all drivers k visits done [] within all ordered = record { ordered = ordered; kept = λ m h. h; there = tt }
 visits-all drivers k visits done (n ∷ ns) within all ordered =
@@ -51,7 +51,7 @@ unfolding visit
 visit-was drivers k done n h = cond-true (has done n) done (fold (visit drivers k) done (arguments_of (driver_at drivers n)) ++ n ∷ []) h
 
 pub visits : (drivers : List Driver) → ReadsNetsOnly drivers → (k : ℕ) → Visits drivers k
-unfolding IsSettled
+unfolding IsShallow
 visits drivers within zero done n l s ordered = absurd s
 visits drivers within (suc k) done n l s ordered =
     elim (cases_Bool (has done n)) [
@@ -70,13 +70,13 @@ visits drivers within (suc k) done n l s ordered =
           })
     ]
 
-all-settled : (drivers : List Driver) (k : ℕ) → ((n : ℕ) → IsSettled drivers k n) → (nets : List ℕ) → AllByRecursion (IsSettled drivers k) nets
-all-settled drivers k h [] = tt
-all-settled drivers k h (n ∷ ns) = (h n, all-settled drivers k h ns)
+all-shallow : (drivers : List Driver) (k : ℕ) → ((n : ℕ) → IsShallow drivers k n) → (nets : List ℕ) → AllByRecursion (IsShallow drivers k) nets
+all-shallow drivers k h [] = tt
+all-shallow drivers k h (n ∷ ns) = (h n, all-shallow drivers k h ns)
 
 pub walk-visits : (net : Netlist) → IsNet net → AllByRecursion (λ m. m < length net.drivers) (output_nets net) → AreVisited net.drivers [] (walk net) (output_nets net)
 unfolding walk
 walk-visits net h within =
     let reads = net-reads_within net h in
     visits-all net.drivers (suc (length net.drivers)) (visits net.drivers reads (suc (length net.drivers))) [] (output_nets net) within
-    (all-settled net.drivers (suc (length net.drivers)) (settled net.drivers h.acyclic reads) (output_nets net)) none
+    (all-shallow net.drivers (suc (length net.drivers)) (shallow net.drivers h.acyclic reads) (output_nets net)) none

@@ -25,10 +25,10 @@ operands_of (Not a) = a ∷ []
 operands_of (Gate gate a b) = a ∷ b ∷ []
 
 -- the cell with other numbers for what it reads
-abbrev pub renumbered : (ℕ → ℕ) → Cell → Cell
-renumbered f (Input port) = Input port
-renumbered f (Not a) = Not (f a)
-renumbered f (Gate gate a b) = Gate gate (f a) (f b)
+abbrev pub with_numbers : (ℕ → ℕ) → Cell → Cell
+with_numbers f (Input port) = Input port
+with_numbers f (Not a) = Not (f a)
+with_numbers f (Gate gate a b) = Gate gate (f a) (f b)
 
 -- the cell with this number, and any cell where there is none
 abbrev pub cell_at : List Cell → ℕ → Cell

@@ -4,9 +4,7 @@ use Rattle.bx_map.specs.declared.cell.Cell.{Cell}
 use Rattle.bx_map.specs.declared.consumer.Consumer.{Consumer}
 use Rattle.bx_map.specs.declared.consumer.Consumer.TheVariants.{Operand, Output}
 use Rattle.bx_map.specs.declared.consumer.Use.{Use}
-use Rattle.std.specs.List.{AllByRecursion}
-use Rattle.bx_forms.specs.Kinds.{slots, operands}
-use Rattle.bx_map.specs.Cells.{CellNet, cell_at, kind_of, operands_of}
+use Rattle.bx_map.specs.Cells.{CellNet, operands_of, AreCells}
 
 abbrev pub use_of : ℕ → Consumer → Use
 use_of i consumer = record { cell = i; consumer = consumer }
@@ -45,17 +43,17 @@ half k = (k + 1) / 2
 -- what serves these consumers, of which there is at least one: more than one are served by a fan, whose
 -- slot 0 serves the first half and slot 1 the others, each by the same rule. As many halvings as there
 -- are consumers are enough.
-unfoldable pub fan_out : ℕ → List Consumer → FanOut
-fan_out zero cs = direct (slice_index_or cs 0 (Output 0))
-fan_out (suc k) cs =
-    if nat_lt 1 (length cs) then fan (fan_out k (take (half (length cs)) cs)) (fan_out k (drop (half (length cs)) cs))
+unfoldable pub tree_within : ℕ → List Consumer → FanOut
+tree_within zero cs = direct (slice_index_or cs 0 (Output 0))
+tree_within (suc k) cs =
+    if nat_lt 1 (length cs) then fan (tree_within k (take (half (length cs)) cs)) (tree_within k (drop (half (length cs)) cs))
     else direct (slice_index_or cs 0 (Output 0))
 
 abbrev pub tree_of : List Consumer → FanOut
-tree_of cs = fan_out (length cs) cs
+tree_of cs = tree_within (length cs) cs
 
-unfoldable pub served : CellNet → ℕ → FanOut
-served net i = tree_of (consumers net i)
+unfoldable pub tree_at : CellNet → ℕ → FanOut
+tree_at net i = tree_of (consumers net i)
 
 -- an operand of one of its cells, or one of its outputs
 abbrev pub IsConsumerOf : CellNet → Consumer → Type 0
@@ -64,10 +62,5 @@ IsConsumerOf net (Output port) = port < length net.outputs
 
 -- a net in cells of which each is read
 pub record IsCellNet (net : CellNet) : Type 0 where
-  -- a cell reads earlier ones, as many as its kind has operands, and gives one value
-  pub reads : (j : ℕ) → j < length net.cells → AllByRecursion (λ a. a < j) (operands_of (cell_at net.cells j))
-  pub arity : (j : ℕ) → j < length net.cells → length (operands_of (cell_at net.cells j)) ≡ operands (kind_of (cell_at net.cells j))
-  pub slot : (j : ℕ) → j < length net.cells → slots (kind_of (cell_at net.cells j)) ≡ 1
-  pub outputs : AllByRecursion (λ a. a < length net.cells) net.outputs
-  -- each cell is read
+  pub cells : AreCells net
   pub consumed : (i : ℕ) → i < length net.cells → 0 < length (consumers net i)

@@ -9,3 +9,4 @@ pub mod Sorts
 pub mod Maps
 pub mod Refusals
 pub mod Faults
+pub mod Examples

@@ -8,9 +8,9 @@ pub record AreMarks (n : ℕ) (xs : List ℕ) (marks : List Bool) : Type 0 where
   pub each : (i : ℕ) → i < n → slice_index_or marks i false ≡ has xs i
 
 -- these numbers are marked too
-abbrev pub marked : List Bool → List ℕ → List Bool
-marked marks [] = marks
-marked marks (i ∷ is) = marked (slice_set marks i true) is
+abbrev pub with_marks : List Bool → List ℕ → List Bool
+with_marks marks [] = marks
+with_marks marks (i ∷ is) = with_marks (slice_set marks i true) is
 
 -- a frame for a net that isn't marked
 abbrev pub frame_for : List Bool → ℕ → List Frame

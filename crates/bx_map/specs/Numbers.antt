@@ -9,7 +9,7 @@ use Rattle.bx_map.specs.declared.cell.Target.{Target}
 use Rattle.bx_map.specs.Cells.{CellNet, cell_at, kind_of, port_of}
 use Rattle.bx_map.specs.declared.consumer.Consumer.{Consumer}
 use Rattle.bx_map.specs.declared.consumer.Consumer.TheVariants.{Operand, Output}
-use Rattle.bx_map.specs.FanOuts.{FanOut, direct, fan, served}
+use Rattle.bx_map.specs.FanOuts.{FanOut, direct, fan, tree_at}
 
 abbrev pub edge_to : ℕ → ℕ → Target → Edge
 edge_to source slot target = record { source = source; slot = slot; target = target.node; operand = target.operand }
@@ -30,7 +30,7 @@ fans (fan first second) = fan_node ∷ (fans first ++ fans second)
 
 -- a cell, followed by its fans
 abbrev pub cell_nodes : CellNet → ℕ → List Node
-cell_nodes net i = cell_node (cell_at net.cells i) ∷ fans (served net i)
+cell_nodes net i = cell_node (cell_at net.cells i) ∷ fans (tree_at net i)
 
 -- the nodes of the first so many cells
 unfoldable pub nodes_before : CellNet → ℕ → List Node
@@ -66,15 +66,15 @@ fan_edges net v (fan first second) =
 
 -- the edges that leave a cell and its fans
 abbrev pub cell_edges : CellNet → ℕ → List Edge
-cell_edges net i = edge_to (number net i) 0 (entry net (suc (number net i)) (served net i)) ∷ fan_edges net (suc (number net i)) (served net i)
+cell_edges net i = edge_to (number net i) 0 (entry net (suc (number net i)) (tree_at net i)) ∷ fan_edges net (suc (number net i)) (tree_at net i)
 
 -- the edges that leave the nodes of the first so many cells
 unfoldable pub edges_before : CellNet → ℕ → List Edge
 edges_before net zero = []
 edges_before net (suc i) = edges_before net i ++ cell_edges net i
 
-unfoldable pub numbered : CellNet → Network
-numbered net = record {
+unfoldable pub numbering_of : CellNet → Network
+numbering_of net = record {
   nodes = nodes_before net (length net.cells) ++ output_nodes 0 net.outputs;
   edges = edges_before net (length net.cells);
 }

@@ -1,11 +1,10 @@
 //! The cells of a net: what the fold makes of it and the drop leaves, or the first output that folds to
 //! a constant. What consumes a cell, and how cells are numbered as nodes, is for the fan-outs to say.
-ghost use Rattle.std.specs.Prelude.{◌≡◌, None, MatchResult, OnOk};
+ghost use Rattle.std.specs.Prelude.{◌≡◌, MatchResult, OnOk};
 ghost use Rattle.bx_logic.specs.Nets.{IsNet};
 ghost use Rattle.bx_map.specs.declared.cells.NoCells.TheVariants.{NoMemory};
 ghost use Rattle.bx_map.specs.Cells.{cell_net};
-ghost use Rattle.bx_map.specs.Drops.{dropped};
-ghost use Rattle.bx_map.specs.Maps.{all_cells, first_constant};
+ghost use Rattle.bx_map.specs.Maps.{HasCells};
 ghost use Rattle.bx_map.specs.Refusals.{IsNoCells};
 
 use crate::cell::Cell;
@@ -13,7 +12,7 @@ use crate::fold::fold_net;
 use crate::keep::keep;
 use crate::outputs::output_cells;
 use bx_logic::{Net, NoMemory};
-use std::alloc::{AllocError, AllocFailed, Global};
+use std::alloc::{AllocFailed, Global};
 use std::marker::Model;
 
 /// Cells, and the cell whose value each output has. Contracts see it as a net in cells.
@@ -71,14 +70,6 @@ impl From<NoMemory> for NoCells {
     }
 }
 
-impl From<AllocError> for NoCells {
-    ghost from_gives = { λ _ refusal. refusal ≡ NoMemory };
-
-    fn from(_: AllocError) -> Self {
-        NoCells::NoMemory
-    }
-}
-
 impl<T: Drop> From<AllocFailed<T>> for NoCells {
     ghost from_gives = { λ _ refusal. refusal ≡ NoMemory };
 
@@ -91,7 +82,7 @@ impl<T: Drop> From<AllocFailed<T>> for NoCells {
 /// arguments.
 pub(crate) fn cells_of(alloc: Global, net: &Net) -> Result<Cells, NoCells>
     ensures net { OnOk result (IsNet net.now) }
-    ensures cells { MatchResult result (λ cells. (first_constant net.now ≡ None) × (cells ≡ dropped (all_cells net.now))) (λ refusal. IsNoCells net.now refusal) }
+    ensures cells { MatchResult result (HasCells net.now) (IsNoCells net.now) }
 {
     let folds = fold_net(alloc, net)?;
     let outputs = output_cells(alloc, net, &folds.values)?;

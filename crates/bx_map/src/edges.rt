@@ -2,7 +2,7 @@
 ghost use Rattle.std.specs.Prelude.{◌≡◌, ◌<◌, ◌≤◌, ◌+◌, ◌^◌, ◌++◌, IfOk, OnOk, length};
 ghost use Rattle.std.specs.List.{AllByRecursion};
 ghost use Rattle.bx_map.specs.FanOuts.{IsConsumerOf, tree_of};
-ghost use Rattle.bx_map.specs.Numbers.{cell_edges, edge_to, fan_edges, numbered};
+ghost use Rattle.bx_map.specs.Numbers.{cell_edges, edge_to, fan_edges, numbering_of};
 
 use crate::cell::Target;
 use crate::consumer::Consumer;
@@ -16,7 +16,7 @@ const MOST_HALVINGS: u32 = 32;
 
 // All edges, in time and memory linear in their number.
 pub fn edges_of(alloc: Global, fan_outs: &FanOuts) -> Result<Vec<Edge>, NoMemory>
-    ensures { IfOk result (λ edges. edges.items ≡ (numbered fan_outs.now).edges) }
+    ensures { IfOk result (λ edges. edges.items ≡ (numbering_of fan_outs.now).edges) }
 {
     let mut edges = Vec::new(alloc);
     for cell in 0..fan_outs.cells().len() {
@@ -51,7 +51,8 @@ fn put_fan_edges(
     requires own { AllByRecursion (IsConsumerOf fan_outs.now) consumers.now }
     requires numbers { v + length consumers.now < 4294967297 }
     requires shallow { length consumers.now ≤ 2 ^ halvings }
-    ensures { OnOk result (edges.new.items ≡ edges.old.items ++ fan_edges fan_outs.now v (tree_of consumers.now)) }
+    ensures { OnOk result (edges.new.items
+        ≡ edges.old.items ++ fan_edges fan_outs.now v (tree_of consumers.now)) }
 {
     if consumers.len() == 1 {
         return Ok(());

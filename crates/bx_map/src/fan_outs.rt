@@ -3,7 +3,7 @@
 ghost use Rattle.std.specs.Prelude.{◌≡◌, ◌<◌, ◌≤◌, IfOk, length, slice_range};
 ghost use Rattle.std.specs.List.{AllByRecursion};
 ghost use Rattle.bx_map.specs.FanOuts.{IsCellNet, IsConsumerOf, consumers, tree_of};
-ghost use Rattle.bx_map.specs.Numbers.{number, numbered, place, entry};
+ghost use Rattle.bx_map.specs.Numbers.{number, numbering_of, place, entry};
 
 use crate::cell::{Cell, Target};
 use crate::cells::Cells;
@@ -40,7 +40,7 @@ impl FanOuts {
     // Those of a net, in time and memory linear in its cells and uses.
     pub fn of(alloc: Global, net: Cells) -> Result<Self, NoMemory>
         requires net { IsCellNet net }
-        requires few { length (numbered net).nodes < 4294967296 }
+        requires few { length (numbering_of net).nodes < 4294967296 }
         ensures { IfOk result (λ fan_outs. fan_outs ≡ net) }
     {
         let cells = net.cells().len();
@@ -74,7 +74,7 @@ impl FanOuts {
         requires { i ≤ length self.now.cells }
         ensures number { result ≡ number self.now i }
         ensures net { IsCellNet self.now }
-        ensures few { length (numbered self.now).nodes < 4294967296 }
+        ensures few { length (numbering_of self.now).nodes < 4294967296 }
     {
         self.starts[i] as u32
     }
@@ -84,7 +84,7 @@ impl FanOuts {
         requires { i < length self.now.cells }
         ensures consumers { result.now ≡ consumers self.now i }
         ensures net { IsCellNet self.now }
-        ensures few { length (numbered self.now).nodes < 4294967296 }
+        ensures few { length (numbering_of self.now).nodes < 4294967296 }
     {
         part_of(&self.sorted, self.starts[i], self.starts[i + 1])
     }

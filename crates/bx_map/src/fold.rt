@@ -4,7 +4,7 @@ ghost use Rattle.std.specs.List.{range_with_len};
 ghost use Rattle.std.specs.Prelude.{◌≡◌, ◌<◌, length, map, All, IfOk};
 ghost use Rattle.bx_logic.specs.Nets.{IsNet, arguments_of};
 ghost use Rattle.bx_map.specs.declared.cell.Cell.TheVariants.{Input};
-ghost use Rattle.bx_map.specs.Folds.{folded, with_cell, inverted, gate_kind, with_constant, combined, plain, single, chained, gate_folded, fold_value, driver_folded, folding};
+ghost use Rattle.bx_map.specs.Folds.{fold_of, with_cell, inverse_of, gate_kind, with_constant, combination_of, plain_op, single_fold, chain_of, gate_fold, fold_value, driver_fold, folding};
 
 use crate::cell::{Cell, Value};
 use crate::walk::walk_order;
@@ -50,7 +50,8 @@ fn input_cells(alloc: Global, inputs: u32) -> Result<Vec<Cell>, NoMemory>
 // The value of a driver, by the values of the nets that it reads.
 fn driver_value(driver: &Driver, values: &[Value], cells: &mut Vec<Cell>) -> Result<Value, NoMemory>
     requires { All (λ m. m < length values.now) (arguments_of driver.now) }
-    ensures { IfOk result (λ value. folded value cells.new.items ≡ driver_folded values.now cells.old.items driver.now) }
+    ensures { IfOk result (λ value. fold_of value cells.new.items
+        ≡ driver_fold values.now cells.old.items driver.now) }
 {
     match driver {
         Driver::Input(port) => Ok(Value::Signal(*port as usize)),
@@ -68,7 +69,8 @@ fn gate_value(
 ) -> Result<Value, NoMemory>
     requires some { 0 < length args.now }
     requires within { All (λ m. m < length values.now) args.now }
-    ensures { IfOk result (λ value. folded value cells.new.items ≡ gate_folded op cells.old.items (map (fold_value values.now) args.now)) }
+    ensures { IfOk result (λ value. fold_of value cells.new.items
+        ≡ gate_fold op cells.old.items (map (fold_value values.now) args.now)) }
 {
     let first = values[args[0] as usize];
     if args.len() == 1 {
@@ -87,7 +89,9 @@ fn chained_value(
     cells: &mut Vec<Cell>,
 ) -> Result<Value, NoMemory>
     requires { All (λ m. m < length values.now) further.now }
-    ensures { IfOk result (λ value. folded value cells.new.items ≡ chained op (folded first cells.old.items) (map (fold_value values.now) further.now)) }
+    ensures { IfOk result (λ value. fold_of value cells.new.items
+        ≡ chain_of op (fold_of first cells.old.items)
+        (map (fold_value values.now) further.now)) }
 {
     let mut value = first;
     for (k, net) in further.iter().enumerate() {
@@ -103,7 +107,7 @@ fn chained_value(
 
 // The operation by which all arguments but the last are combined.
 fn plain_op(op: Op) -> Op
-    ensures { result ≡ plain op }
+    ensures { result ≡ plain_op op }
 {
     match op {
         Op::Nand => Op::And,
@@ -115,7 +119,8 @@ fn plain_op(op: Op) -> Op
 
 // The value of an operation of one value.
 fn single_value(op: Op, value: Value, cells: &mut Vec<Cell>) -> Result<Value, NoMemory>
-    ensures { IfOk result (λ single_one. folded single_one cells.new.items ≡ single op cells.old.items value) }
+    ensures { IfOk result (λ made. fold_of made cells.new.items
+        ≡ single_fold op cells.old.items value) }
 {
     match op {
         Op::Not | Op::Nand | Op::Nor | Op::Xnor => inverted_value(value, cells),
@@ -125,7 +130,8 @@ fn single_value(op: Op, value: Value, cells: &mut Vec<Cell>) -> Result<Value, No
 
 // The value of an operation of two values.
 fn combined_value(op: Op, a: Value, b: Value, cells: &mut Vec<Cell>) -> Result<Value, NoMemory>
-    ensures { IfOk result (λ value. folded value cells.new.items ≡ combined op cells.old.items a b) }
+    ensures { IfOk result (λ value. fold_of value cells.new.items
+        ≡ combination_of op cells.old.items a b) }
 {
     match a {
         Value::Constant(bit) => constant_value(op, bit, b, cells),
@@ -138,7 +144,8 @@ fn combined_value(op: Op, a: Value, b: Value, cells: &mut Vec<Cell>) -> Result<V
 
 // The value of an operation of a constant and a value.
 fn constant_value(op: Op, bit: bool, value: Value, cells: &mut Vec<Cell>) -> Result<Value, NoMemory>
-    ensures { IfOk result (λ outcome. folded outcome cells.new.items ≡ with_constant op bit cells.old.items value) }
+    ensures { IfOk result (λ made. fold_of made cells.new.items
+        ≡ with_constant op bit cells.old.items value) }
 {
     match (op, bit) {
         (Op::And, false) => Ok(Value::Constant(false)),
@@ -160,7 +167,8 @@ fn constant_value(op: Op, bit: bool, value: Value, cells: &mut Vec<Cell>) -> Res
 
 // Not of a value: a constant has no cell.
 fn inverted_value(value: Value, cells: &mut Vec<Cell>) -> Result<Value, NoMemory>
-    ensures { IfOk result (λ outcome. folded outcome cells.new.items ≡ inverted cells.old.items value) }
+    ensures { IfOk result (λ made. fold_of made cells.new.items
+        ≡ inverse_of cells.old.items value) }
 {
     match value {
         Value::Constant(bit) => Ok(Value::Constant(!bit)),
@@ -170,7 +178,8 @@ fn inverted_value(value: Value, cells: &mut Vec<Cell>) -> Result<Value, NoMemory
 
 // The value of a new cell behind these.
 fn new_cell(cell: Cell, cells: &mut Vec<Cell>) -> Result<Value, NoMemory>
-    ensures { IfOk result (λ value. folded value cells.new.items ≡ with_cell cells.old.items cell) }
+    ensures { IfOk result (λ value. fold_of value cells.new.items
+        ≡ with_cell cells.old.items cell) }
 {
     let number = cells.len();
     cells.push(cell)?;

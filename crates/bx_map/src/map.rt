@@ -5,8 +5,8 @@ ghost use Rattle.bx_logic.specs.Behaviours.{SameBehaviour, net_behaviour};
 ghost use Rattle.bx_network.specs.Networks.{IsNetwork};
 ghost use Rattle.bx_network.specs.Values.{network_behaviour};
 ghost use Rattle.bx_map.specs.FanOuts.{IsCellNet};
-ghost use Rattle.bx_map.specs.Maps.{first_constant, mapped, node_count};
-ghost use Rattle.bx_map.specs.Numbers.{numbered};
+ghost use Rattle.bx_map.specs.Maps.{first_constant, mapping_of, node_count};
+ghost use Rattle.bx_map.specs.Numbers.{numbering_of};
 ghost use Rattle.bx_map.specs.Faults.{IsMapFault};
 ghost use Rattle.bx_map.specs.declared.map.MapFault.TheVariants.{NoMemory as OutOfMemory};
 
@@ -54,14 +54,15 @@ impl From<NoCells> for MapFault {
 /// and memory are linear in nets and arguments; nodes that are too many are counted and not made.
 pub fn map_net(alloc: Global, net: &Net, most: u32) -> Result<MappedNet, MapFault>
     requires { most ≤ 65536 }
-    ensures mapped { IfOk result (λ network. network ≡ mapped net.now) }
+    ensures mapped { IfOk result (λ network. network ≡ mapping_of net.now) }
     ensures no_constant { OnOk result (first_constant net.now ≡ None) }
     ensures few { OnOk result (node_count net.now ≤ most) }
     ensures fault { IfErr result (IsMapFault net.now most) }
 
     // What follows from it.
     ensures network { IfOk result IsNetwork }
-    ensures behaviour { IfOk result (λ network. SameBehaviour (net_behaviour net.now) (network_behaviour (length net.now.inputs) network)) }
+    ensures behaviour { IfOk result (λ network. SameBehaviour (net_behaviour net.now)
+        (network_behaviour (length net.now.inputs) network)) }
 {
     let cells = cells_of(alloc, net)?;
     let count = count_nodes(&cells)?;
@@ -74,9 +75,9 @@ pub fn map_net(alloc: Global, net: &Net, most: u32) -> Result<MappedNet, MapFaul
 // The network of the nodes and edges of these cells.
 fn network_of(alloc: Global, cells: Cells) -> Result<MappedNet, NoMemory>
     requires cells { IsCellNet cells }
-    requires few { length (numbered cells).nodes < 4294967296 }
-    requires network { IsNetwork (numbered cells) }
-    ensures { IfOk result (λ network. network ≡ numbered cells) }
+    requires few { length (numbering_of cells).nodes < 4294967296 }
+    requires network { IsNetwork (numbering_of cells) }
+    ensures { IfOk result (λ network. network ≡ numbering_of cells) }
 {
     let fan_outs = FanOuts::of(alloc, cells)?;
     let nodes = nodes_of(alloc, &fan_outs)?;

@@ -1,8 +1,8 @@
 //! The nodes of a mapped network: each cell with its fans, and then the outputs.
-ghost use Rattle.std.specs.Prelude.{◌≡◌, ◌<◌, ◌++◌, IfOk, OnOk, length, replicate};
+ghost use Rattle.std.specs.Prelude.{◌≡◌, ◌<◌, ◌≤◌, ◌+◌, ◌^◌, ◌++◌, IfOk, OnOk, OnErr, length, replicate};
 ghost use Rattle.bx_map.specs.FanOuts.{IsCellNet};
 ghost use Rattle.bx_map.specs.Cells.{operands_of};
-ghost use Rattle.bx_map.specs.Numbers.{cell_node, cell_nodes, fan_node, numbered, output_nodes};
+ghost use Rattle.bx_map.specs.Numbers.{cell_node, cell_nodes, fan_node, numbering_of, output_nodes};
 
 use crate::cell::Cell;
 use crate::cells::Cells;
@@ -12,25 +12,28 @@ use bx_logic::NoMemory;
 use bx_network::Node;
 use std::alloc::Global;
 
-// No memory holds as many cells or outputs, so that the number of nodes fits.
-const MOST_CELLS: usize = 0x2000_0000_0000_0000;
-
 // How many nodes there are: two for each output, one of which stands for its use of a cell, and one for
-// each other use. It takes no memory.
+// each other use. It takes no memory, and refuses where they are too many for a number of 64 bits.
 pub fn count_nodes(net: &Cells) -> Result<u64, NoMemory>
     requires { IsCellNet net.now }
-    ensures { IfOk result (λ count. count ≡ length (numbered net.now).nodes) }
+    ensures count { IfOk result (λ count. count ≡ length (numbering_of net.now).nodes) }
+    ensures past { OnErr result (2 ^ 64 ≤ length (numbering_of net.now).nodes) }
 {
     let cells = net.cells();
-    let outputs = net.outputs();
-    if cells.len() >= MOST_CELLS || outputs.len() >= MOST_CELLS {
-        return Err(NoMemory);
-    }
-    let mut count = 2 * outputs.len() as u64;
+    let outputs = net.outputs().len() as u64;
+    let mut count = sum_of(outputs, outputs)?;
     for cell in cells {
-        count += operand_count(*cell);
+        count = sum_of(count, operand_count(*cell))?;
     }
     Ok(count)
+}
+
+// The sum of two numbers, where it fits. No memory holds as many nodes as make it pass.
+fn sum_of(a: u64, b: u64) -> Result<u64, NoMemory>
+    ensures sum { IfOk result (λ sum. sum ≡ a + b) }
+    ensures past { OnErr result (2 ^ 64 ≤ a + b) }
+{
+    a.checked_add(b).ok_or(NoMemory)
 }
 
 // How many values a cell reads.
@@ -46,7 +49,7 @@ fn operand_count(cell: Cell) -> u64
 
 // All nodes, in time and memory linear in their number.
 pub fn nodes_of(alloc: Global, fan_outs: &FanOuts) -> Result<Vec<Node>, NoMemory>
-    ensures { IfOk result (λ nodes. nodes.items ≡ (numbered fan_outs.now).nodes) }
+    ensures { IfOk result (λ nodes. nodes.items ≡ (numbering_of fan_outs.now).nodes) }
 {
     let mut nodes = Vec::new(alloc);
     for cell in 0..fan_outs.cells().len() {

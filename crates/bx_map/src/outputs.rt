@@ -1,7 +1,7 @@
 //! The values of the outputs: the cell of each, or the first output that folds to a constant.
-ghost use Rattle.std.specs.Prelude.{◌≡◌, None, length, map, MatchResult};
+ghost use Rattle.std.specs.Prelude.{◌≡◌, length, MatchResult};
 ghost use Rattle.bx_map.specs.Folds.{folding};
-ghost use Rattle.bx_map.specs.Maps.{first_constant, output_folds, signal_of};
+ghost use Rattle.bx_map.specs.Maps.{AreSignals};
 ghost use Rattle.bx_map.specs.Refusals.{IsNoCells};
 
 use crate::cell::Value;
@@ -17,7 +17,8 @@ pub(crate) fn output_cells(
 ) -> Result<Vec<usize>, NoCells>
     requires values { values.now ≡ (folding net.now).values }
     requires whole { length values.now ≡ length net.now.drivers }
-    ensures { MatchResult result (λ outputs. (first_constant net.now ≡ None) × (outputs.items ≡ map signal_of (output_folds net.now))) (λ refusal. IsNoCells net.now refusal) }
+    ensures { MatchResult result (λ outputs. AreSignals net.now outputs.items)
+        (IsNoCells net.now) }
 {
     let mut outputs = Vec::new(alloc);
     for j in 0..net.output_count() {

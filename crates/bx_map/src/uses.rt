@@ -32,7 +32,8 @@ fn put_cell_uses(all: &mut Vec<Use>, cells: &[Cell]) -> Result<(), NoMemory>
 
 // Appends the uses by the operands of the cell with this number.
 fn put_operand_uses(all: &mut Vec<Use>, number: usize, cell: Cell) -> Result<(), NoMemory>
-    ensures { OnOk result (all.new.items ≡ all.old.items ++ operand_uses number 0 (operands_of cell)) }
+    ensures { OnOk result (all.new.items
+        ≡ all.old.items ++ operand_uses number 0 (operands_of cell)) }
 {
     match cell {
         Cell::Input(_) => {}

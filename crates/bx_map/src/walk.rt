@@ -35,9 +35,12 @@ impl Visited {
     fn visit_from(&mut self, alloc: Global, net: &Net, first: u32) -> Result<(), NoMemory>
         requires net { IsNet net.now }
         requires within { first < length net.now.drivers }
-        requires marks { AreMarks (length net.now.drivers) self.old.order.items self.old.left.items }
-        ensures marks { OnOk result (AreMarks (length net.now.drivers) self.new.order.items self.new.left.items) }
-        ensures order { OnOk result (self.new.order.items ≡ visit net.now.drivers (suc (length net.now.drivers)) self.old.order.items first) }
+        requires marks { AreMarks (length net.now.drivers)
+            self.old.order.items self.old.left.items }
+        ensures marks { OnOk result (AreMarks (length net.now.drivers)
+            self.new.order.items self.new.left.items) }
+        ensures order { OnOk result (self.new.order.items
+            ≡ visit net.now.drivers (suc (length net.now.drivers)) self.old.order.items first) }
     {
         let mut way = Vec::new(alloc);
         enter(&self.left, &mut way, first)?;
@@ -59,8 +62,10 @@ impl Visited {
     // Puts a net behind those that were left.
     fn leave(&mut self, net: u32) -> Result<(), NoMemory>
         requires { net < length self.old.left.items }
-        ensures order { OnOk result (self.new.order.items ≡ self.old.order.items ++ (net ∷ [])) }
-        ensures left { OnOk result (self.new.left.items ≡ slice_set self.old.left.items net true) }
+        ensures order { OnOk result (self.new.order.items
+            ≡ self.old.order.items ++ (net ∷ [])) }
+        ensures left { OnOk result (self.new.left.items
+            ≡ slice_set self.old.left.items net true) }
     {
         self.left[net as usize] = true;
         self.order.push(net)?;

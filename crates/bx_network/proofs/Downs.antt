@@ -1,4 +1,4 @@
--- Longest paths: the lengths that are raised edge by edge are theirs, those from the inputs in the order of
+-- Longest paths: the lengths that are with_edge edge by edge are theirs, those from the inputs in the order of
 -- the edges, and those to the outputs in the opposite order.
 use Rattle.std.proofs.Common.{◌≡◌, ℕ, zero, suc, ◌+◌, ◌-◌, ◌<◌, ◌≤◌, List, length, get_or, replicate, Some, inl, inr, refl, sym, ap, ◌∙◌, subst, arith}
 use Rattle.std.specs.List.{slice_get, position_or_len}
@@ -11,7 +11,7 @@ use Rattle.bx_network.specs.Networks.{Network, IsNetwork, HasKind, leaves_by, en
 use Rattle.bx_network.specs.Paths.{HasEdge, IsPath, IsDown, IsUp}
 use Rattle.bx_network.specs.Mapped.{AreDowns, AreUps}
 use Rattle.bx_network.proofs.Lists.{got-within, got-get_or, got-slice_get}
-use Rattle.bx_network.proofs.Longest.{at, raised, lengths, IsLongest, AreOrdered, longest}
+use Rattle.bx_network.proofs.Longest.{at, lengths, IsLongest, AreOrdered, longest}
 use Rattle.bx_network.proofs.Networks.{operands-none, slots-none, kind-at, edge-leaves, edge-enters, leaves-says, enters-says, goes-forward, sources-rise}
 
 pub down_is_one : (N : Network) (v d e : ℕ) → IsDown N v d → IsDown N v e → d ≡ e
@@ -130,7 +130,7 @@ record IsEnded (N : Network) (v d : ℕ) : Type 0 where
   ends : HasKind N output Output
   path : IsPath N.edges v output d
 
--- a node that no edge raised is an input
+-- a node that no edge with_edge is an input
 not-raised : (N : Network) → IsNetwork N → (v : ℕ) (kind : Kind) → HasKind N v kind → at (all_downs N) v ≡ 0 → kind ≡ Input
 not-raised N net v kind has none =
     elim (cases_lt 0 (operands kind)) [
@@ -203,46 +203,7 @@ ups-are N net v h =
       longest = λ u n ends path. let fall = path-falls N.edges (at (all_ups N)) (ups-fall N net) v u n path in omega arith;
     }
 
--- ---- the same, step by step
-
-pub downs-none : (edges : List Edge) (n : ℕ) → downs edges n 0 ≡ replicate n 0
-unfolding lengths
-downs-none edges n = refl
-
-pub ups-none : (edges : List Edge) (n : ℕ) → ups edges n 0 ≡ replicate n 0
-unfolding lengths
-ups-none edges n = refl
-
-pub downs-next : (edges : List Edge) (n k : ℕ) → downs edges n (k + 1) ≡ raised (downs edges n k) (edge_at edges k).source (edge_at edges k).target
-unfolding lengths
-downs-next edges n k = let e : k + 1 ≡ suc k = omega arith in ap (downs edges n) e
-
-pub ups-next : (edges : List Edge) (n k : ℕ) → ups edges n (k + 1) ≡ raised (ups edges n k) (edge_at edges (from_end edges k)).target (edge_at edges (from_end edges k)).source
-unfolding lengths
-ups-next edges n k = let e : k + 1 ≡ suc k = omega arith in ap (ups edges n) e
-
--- so far no length is above the number of edges
-pub downs-low : (N : Network) → IsNetwork N → (L : List ℕ) (k v : ℕ) → k < length N.edges → L ≡ downs N.edges (length N.nodes) k → at L v < 4294967295
-downs-low N net L k v h same =
-    let whole = downs-longest N net k (omega arith) in
-    let low = whole.low v in
-    let few = net.few_edges in
-    let here = ap (λ (l : List ℕ). at l v) same in
-    omega arith
-
-pub ups-low : (N : Network) → IsNetwork N → (L : List ℕ) (k v : ℕ) → k < length N.edges → L ≡ ups N.edges (length N.nodes) k → at L v < 4294967295
-ups-low N net L k v h same =
-    let whole = ups-longest N net k (omega arith) in
-    let low = whole.low v in
-    let few = net.few_edges in
-    let here = ap (λ (l : List ℕ). at l v) same in
-    omega arith
-
-pub downs-length : (N : Network) → IsNetwork N → (L : List ℕ) (k : ℕ) → k ≤ length N.edges → L ≡ downs N.edges (length N.nodes) k → length L ≡ length N.nodes
-downs-length N net L k h same = ap length same ∙ (downs-longest N net k h).all
-
-pub ups-length : (N : Network) → IsNetwork N → (L : List ℕ) (k : ℕ) → k ≤ length N.edges → L ≡ ups N.edges (length N.nodes) k → length L ≡ length N.nodes
-ups-length N net L k h same = ap length same ∙ (ups-longest N net k h).all
+-- ---- the lists that are made
 
 pub are-downs : (N : Network) → IsNetwork N → (L : List ℕ) (k : ℕ) → k ≡ length N.edges → L ≡ downs N.edges (length N.nodes) k → AreDowns N L
 are-downs N net L k all same =

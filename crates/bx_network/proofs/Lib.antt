@@ -5,4 +5,5 @@ pub mod Downs
 pub mod Valuations
 pub mod Placed
 pub mod Window
+pub mod PassingNetworks
 pub mod NearMisses

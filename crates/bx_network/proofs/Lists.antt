@@ -1,16 +1,11 @@
 -- What is read of a list at a place, and lists of which one item passes a test.
-use Rattle.std.proofs.Common.{◌≡◌, ℕ, zero, suc, ◌<◌, Bool, true, false, List, [], ◌∷◌, filter, length, get_or, replicate, Some, refl, sym, ap, ◌∙◌, subst, arith}
-use Rattle.std.specs.List.{slice_get, position_or_len, AllByRecursion}
-
-pub got-within : {X : Type 0} (xs : List X) (i : ℕ) (x : X) → slice_get xs i ≡ Some x → i < length xs
-got-within [] i x e = absurd (cc)
-got-within (y ∷ ys) zero x e = omega arith
-got-within (y ∷ ys) (suc i) x e = let h = got-within ys i x e in omega arith
-
-pub got-get_or : {X : Type 0} (xs : List X) (i : ℕ) (x d : X) → slice_get xs i ≡ Some x → get_or xs i d ≡ x
-got-get_or [] i x d e = absurd (cc)
-got-get_or (y ∷ ys) zero x d e = cc
-got-get_or (y ∷ ys) (suc i) x d e = got-get_or ys i x d e
+use Rattle.std.proofs.Common.{◌≡◌, ℕ, zero, suc, ◌<◌, Bool, true, false, List, [], ◌∷◌, filter, length, get_or, replicate, Some, refl, sym, ap, ◌∙◌, arith}
+use Rattle.std.specs.List.{slice_get, position_or_len}
+use Rattle.std.proofs.lemmas.List.{length-replicate}
+use Rattle.std.proofs.lemmas.Option.{slice_get-get_or}
+-- the same of any list stands in std and in bx_logic
+pub use Rattle.std.proofs.lemmas.Option.{slice_get_within as got-within, get_or_from_slice_get as got-get_or, slice_get-get_or as got-slice_get}
+pub use Rattle.bx_logic.proofs.Lists.{all-get as got-all}
 
 -- what stands at a place of a list
 pub record IsAt {X : Type 0} (xs : List X) (i : ℕ) : Type 0 where
@@ -19,18 +14,7 @@ pub record IsAt {X : Type 0} (xs : List X) (i : ℕ) : Type 0 where
 
 pub got-at : {X : Type 0} (xs : List X) (i : ℕ) → i < length xs → IsAt xs i
 got-at [] i h = absurd (omega arith)
-got-at (y ∷ ys) zero h = record { item = y; at = refl }
-got-at (y ∷ ys) (suc i) h = let rest = got-at ys i (omega arith) in record { item = rest.item; at = rest.at }
-
-pub got-slice_get : {X : Type 0} (xs : List X) (i : ℕ) (d : X) → i < length xs → slice_get xs i ≡ Some (get_or xs i d)
-got-slice_get [] i d h = absurd (omega arith)
-got-slice_get (y ∷ ys) zero d h = refl
-got-slice_get (y ∷ ys) (suc i) d h = got-slice_get ys i d (omega arith)
-
-pub got-all : {X : Type 0} (P : X → Type 0) (xs : List X) (i : ℕ) (x : X) → AllByRecursion P xs → slice_get xs i ≡ Some x → P x
-got-all P [] i x all e = absurd (cc)
-got-all P (y ∷ ys) zero x all e = let same : y ≡ x = cc in subst P same all.0
-got-all P (y ∷ ys) (suc i) x all e = got-all P ys i x all.1 e
+got-at (y ∷ ys) i h = record { item = get_or (y ∷ ys) i y; at = slice_get-get_or (y ∷ ys) i y h }
 
 -- no item passes
 none-left : {X : Type 0} (p : X → Bool) (x : X) (xs : List X) (b : Bool) → p x ≡ b → length (filter p (x ∷ xs)) ≡ 0 → (b ≡ false) × (length (filter p xs) ≡ 0)
@@ -91,5 +75,4 @@ got-replicate (suc n) zero = refl
 got-replicate (suc n) (suc v) = got-replicate n v
 
 pub length-got-replicate : (n : ℕ) → length (replicate {A = ℕ} n 0) ≡ n
-length-got-replicate zero = refl
-length-got-replicate (suc n) = ap suc (length-got-replicate n)
+length-got-replicate n = length-replicate n 0

@@ -1,63 +1,32 @@
 -- What holds of a network: the edge by each slot and operand, and the order of its edges.
-use Rattle.std.proofs.Common.{◌≡◌, ℕ, ◌<◌, ◌≤◌, nat_lt, ◌==◌, true, length, get_or, Some, inl, inr, refl, sym, ap, ◌∙◌, subst, arith, eqb-true, eq-eqb, le-ltb, lt-ltb}
+use Rattle.std.proofs.Common.{◌≡◌, ℕ, ◌<◌, ◌≤◌, ◌==◌, true, length, get_or, Some, inl, inr, refl, sym, ap, ◌∙◌, subst, arith, eqb-true, eq-eqb, le-ltb, lt-ltb}
 use Rattle.std.specs.List.{slice_get}
 use Rattle.std.proofs.lemmas.Bool.{cases_lt, cases_eq, and_parts}
 use Rattle.bx_forms.specs.declared.kind.Kind.{Kind}
-use Rattle.bx_forms.specs.declared.kind.Kind.TheVariants.{Input, Output, Not, Fan, And, Or, Nand, Nor, Xor, Xnor}
+use Rattle.bx_forms.specs.declared.kind.Kind.TheVariants.{Input, Output}
 use Rattle.bx_forms.specs.Kinds.{operands, slots}
 use Rattle.bx_network.specs.declared.node.Node.{Node}
 use Rattle.bx_network.specs.declared.node.Edge.{Edge}
-use Rattle.bx_network.specs.Networks.{HasSlot, HasOperand, Network, IsNetwork, IsBefore, HasKind, leaves_by, enters_by, leaving, entering, one_if}
+use Rattle.bx_network.specs.Networks.{HasSlot, HasOperand, Network, IsNetwork, IsBefore, HasKind, leaves_by, enters_by, fan_out, fan_in, one_if}
+use Rattle.bx_logic.proofs.Lists.{get-once}
 use Rattle.bx_network.proofs.Lists.{IsOnly, got-within, got-get_or, got-at, got-all, one-passes, none-passes}
 
 pub operands-few : (kind : Kind) → operands kind ≤ 2
 operands-few Input = omega arith
-operands-few Output = omega arith
-operands-few Not = omega arith
-operands-few Fan = omega arith
-operands-few And = omega arith
-operands-few Or = omega arith
-operands-few Nand = omega arith
-operands-few Nor = omega arith
-operands-few Xor = omega arith
-operands-few Xnor = omega arith
+operands-few _ = omega arith
 
 pub slots-few : (kind : Kind) → slots kind ≤ 2
 slots-few Input = omega arith
-slots-few Output = omega arith
-slots-few Not = omega arith
-slots-few Fan = omega arith
-slots-few And = omega arith
-slots-few Or = omega arith
-slots-few Nand = omega arith
-slots-few Nor = omega arith
-slots-few Xor = omega arith
-slots-few Xnor = omega arith
+slots-few _ = omega arith
 
 -- a node without operands is an input, and one without slots an output
 pub operands-none : (kind : Kind) → operands kind ≡ 0 → kind ≡ Input
 operands-none Input e = refl
-operands-none Output e = absurd (omega arith)
-operands-none Not e = absurd (omega arith)
-operands-none Fan e = absurd (omega arith)
-operands-none And e = absurd (omega arith)
-operands-none Or e = absurd (omega arith)
-operands-none Nand e = absurd (omega arith)
-operands-none Nor e = absurd (omega arith)
-operands-none Xor e = absurd (omega arith)
-operands-none Xnor e = absurd (omega arith)
+operands-none _ e = absurd (omega arith)
 
 pub slots-none : (kind : Kind) → slots kind ≡ 0 → kind ≡ Output
-slots-none Input e = absurd (omega arith)
 slots-none Output e = refl
-slots-none Not e = absurd (omega arith)
-slots-none Fan e = absurd (omega arith)
-slots-none And e = absurd (omega arith)
-slots-none Or e = absurd (omega arith)
-slots-none Nand e = absurd (omega arith)
-slots-none Nor e = absurd (omega arith)
-slots-none Xor e = absurd (omega arith)
-slots-none Xnor e = absurd (omega arith)
+slots-none _ e = absurd (omega arith)
 
 -- what a node's kind is, where it stands in the list
 pub kind-at : (N : Network) (v : ℕ) → v < length N.nodes → (kind : Kind) × HasKind N v kind
@@ -66,24 +35,18 @@ kind-at N v h = let here = got-at N.nodes v h in (here.item.kind, (here.item, he
 pub kind-within : (N : Network) (v : ℕ) (kind : Kind) → HasKind N v kind → v < length N.nodes
 kind-within N v kind (node, at, same) = got-within N.nodes v node at
 
-some-same : (one other : Node) → Some one ≡ Some other → one ≡ other
-some-same one other e = cc
-
 pub kind-once : (N : Network) (v : ℕ) (one other : Kind) → HasKind N v one → HasKind N v other → one ≡ other
 kind-once N v one other (a, at_a, is_a) (b, at_b, is_b) =
-    sym is_a ∙ ap (λ (n : Node). n.kind) (some-same a b (sym at_a ∙ at_b)) ∙ is_b
+    sym is_a ∙ ap (λ (n : Node). n.kind) (get-once N.nodes v a b at_a at_b) ∙ is_b
 
 -- the one edge by a slot, and by an operand
-yes-below : (k n : ℕ) → k < n → nat_lt k n ≡ true
-yes-below k n h = lt-ltb k n h
-
 pub edge-leaves : (N : Network) → IsNetwork N → (v : ℕ) (kind : Kind) → HasKind N v kind → (slot : ℕ) → slot < slots kind → IsOnly (leaves_by v slot) N.edges
 edge-leaves N net v kind has slot h =
-    one-passes (leaves_by v slot) N.edges (net.leaves v kind has slot ∙ ap one_if (yes-below slot (slots kind) h))
+    one-passes (leaves_by v slot) N.edges (net.leaves v kind has slot ∙ ap one_if (lt-ltb slot (slots kind) h))
 
 pub edge-enters : (N : Network) → IsNetwork N → (v : ℕ) (kind : Kind) → HasKind N v kind → (operand : ℕ) → operand < operands kind → IsOnly (enters_by v operand) N.edges
 edge-enters N net v kind has operand h =
-    one-passes (enters_by v operand) N.edges (net.enters v kind has operand ∙ ap one_if (yes-below operand (operands kind) h))
+    one-passes (enters_by v operand) N.edges (net.enters v kind has operand ∙ ap one_if (lt-ltb operand (operands kind) h))
 
 pub leaves-itself : (e : Edge) → leaves_by e.source e.slot e ≡ true
 leaves-itself e = rw (eq-eqb e.source e.source refl, eq-eqb e.slot e.slot refl) refl
@@ -103,7 +66,7 @@ slot-within N net i e at kind has =
     elim (cases_lt e.slot (slots kind)) [
       | inl low ↦ low
       | inr past ↦
-          let none : length (leaving N.edges e.source e.slot) ≡ 0 = net.leaves e.source kind has e.slot ∙ ap one_if (le-ltb e.slot (slots kind) past) in
+          let none : length (fan_out N.edges e.source e.slot) ≡ 0 = net.leaves e.source kind has e.slot ∙ ap one_if (le-ltb e.slot (slots kind) past) in
           let out = none-passes (leaves_by e.source e.slot) N.edges none i e at in
           absurd (cc (leaves-itself e, out))
     ]
@@ -113,7 +76,7 @@ operand-within N net i e at kind has =
     elim (cases_lt e.operand (operands kind)) [
       | inl low ↦ low
       | inr past ↦
-          let none : length (entering N.edges e.target e.operand) ≡ 0 = net.enters e.target kind has e.operand ∙ ap one_if (le-ltb e.operand (operands kind) past) in
+          let none : length (fan_in N.edges e.target e.operand) ≡ 0 = net.enters e.target kind has e.operand ∙ ap one_if (le-ltb e.operand (operands kind) past) in
           let out = none-passes (enters_by e.target e.operand) N.edges none i e at in
           absurd (cc (enters-itself e, out))
     ]
@@ -133,7 +96,7 @@ goes-forward N net i e at = record {
 pub sources-rise : (N : Network) → IsNetwork N → (i j : ℕ) (e f : Edge) → slice_get N.edges i ≡ Some e → slice_get N.edges j ≡ Some f → i ≤ j → e.source ≤ f.source
 sources-rise N net i j e f at_i at_j h =
     elim (cases_eq i j) [
-      | inl same ↦ let one : e ≡ f = some-edge e f (sym at_i ∙ ap (slice_get N.edges) same ∙ at_j) in let a = ap (λ (e : Edge). e.source) one in omega arith
+      | inl same ↦ let one = get-once N.edges j e f (sym (ap (slice_get N.edges) same) ∙ at_i) at_j in let a = ap (λ (e : Edge). e.source) one in omega arith
       | inr other ↦
           let before = net.ascending i j e (omega arith) (got-within N.edges j f at_j) in
           let first = got-get_or N.edges i e e at_i in
@@ -141,9 +104,6 @@ sources-rise N net i j e f at_i at_j h =
           before-says e f (subst (λ (x : Edge). IsBefore x f) first (subst (λ (x : Edge). IsBefore (get_or N.edges i e) x) second before))
     ]
   where
-    some-edge : (one other : Edge) → Some one ≡ Some other → one ≡ other
-    some-edge one other e = cc
-
     before-says : (e f : Edge) → IsBefore e f → e.source ≤ f.source
     before-says e f (inl low) = omega arith
     before-says e f (inr both) = let a = both.0 in omega arith

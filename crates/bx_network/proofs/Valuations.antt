@@ -3,6 +3,7 @@
 use Rattle.std.proofs.Common.{◌≡◌, ℕ, zero, suc, ◌+◌, ◌-◌, ◌<◌, ◌≤◌, Bool, false, List, [], ◌∷◌, ◌++◌, length, get_or, map, Some, inl, inr, ◌⊎◌, zero-add, refl, sym, ap, ap₂, ◌∙◌, subst, arith, length-append}
 use Rattle.std.specs.List.{slice_get, position_or_len, range_with_len}
 use Rattle.std.proofs.lemmas.Bool.{cases_lt}
+use Rattle.std.proofs.lemmas.List.FromFn.{length-map-range_with_len, get_or-map-range_with_len}
 use Rattle.std.proofs.lemmas.List.{ext_get_or, get_or_append_left, get_or-append-add}
 use Rattle.bx_logic.specs.Values.{value_of}
 use Rattle.bx_logic.specs.Behaviours.{IsFunction}
@@ -12,7 +13,7 @@ use Rattle.bx_forms.specs.Kinds.{operands, gives}
 use Rattle.bx_network.specs.declared.node.Node.{Node}
 use Rattle.bx_network.specs.declared.node.Edge.{Edge}
 use Rattle.bx_network.specs.Networks.{Network, IsNetwork, HasKind, HasPort, enters_by, output_count}
-use Rattle.bx_network.specs.Values.{edge_into, values_into, node_reads, reads, IsValuation, IsOnlyValuation, NetworkGives, network_behaviour}
+use Rattle.bx_network.specs.Values.{edge_into, values_into, node_reads, operand_values, IsValuation, IsOnlyValuation, NetworkGives, network_behaviour}
 use Rattle.bx_network.proofs.Lists.{got-within, got-get_or, got-slice_get}
 use Rattle.bx_network.proofs.Networks.{edge-enters, enters-says, goes-forward, sources-rise}
 use Rattle.bx_network.proofs.Downs.{no_edge, edge_at}
@@ -27,7 +28,7 @@ node_at N v = get_or N.nodes v no_node
 abbrev pub edge_value : Network → List Bool → List Bool → ℕ → Bool
 edge_value N bits values i =
     let e = edge_at N.edges i in
-    gives (node_at N e.source).kind (reads N bits values e.source (node_at N e.source)) e.slot
+    gives (node_at N e.source).kind (operand_values N bits values e.source (node_at N e.source)) e.slot
 
 -- the two lists have the same first n values
 abbrev pub AgreeBelow : ℕ → List Bool → List Bool → Type 0
@@ -122,12 +123,6 @@ valuations-agree N net bits bs cs b c (suc n) h j low =
           subst (λ (m : ℕ). get_or bs m false ≡ get_or cs m false) (sym here) value
     ]
 
-some-edge : (one other : Edge) → Some one ≡ Some other → one ≡ other
-some-edge one other e = cc
-
-some-node : (one other : Node) → Some one ≡ Some other → one ≡ other
-some-node one other e = cc
-
 pub made-is : (N : Network) → IsNetwork N → (bits : List Bool) → IsValuation N bits (made N bits (length N.edges))
 made-is N net bits = record {
   whole = length-made N bits (length N.edges);
@@ -136,8 +131,8 @@ made-is N net bits = record {
       let same_node : node_at N e.source ≡ node = got-get_or N.nodes e.source node no_node at_node in
       let values = made N bits (length N.edges) in
       made-each N net bits i (got-within N.edges i e at_edge)
-      ∙ ap (λ (x : Edge). gives (node_at N x.source).kind (reads N bits values x.source (node_at N x.source)) x.slot) same_edge
-      ∙ ap (λ (x : Node). gives x.kind (reads N bits values e.source x) e.slot) same_node;
+      ∙ ap (λ (x : Edge). gives (node_at N x.source).kind (operand_values N bits values x.source (node_at N x.source)) x.slot) same_edge
+      ∙ ap (λ (x : Node). gives x.kind (operand_values N bits values e.source x) e.slot) same_node;
 }
 
 pub valuation-of : (N : Network) → IsNetwork N → (bits : List Bool) → IsOnlyValuation N bits (made N bits (length N.edges))
@@ -171,15 +166,6 @@ port-has : (N : Network) (net : IsNetwork N) (port : ℕ) → port < output_coun
 unfolding port_node
 port-has N net port h = chosen-has N net port (cases_lt port (output_count N)) h
 
-mapped-length : (f : ℕ → Bool) (a n : ℕ) → length (map f (range_with_len a n)) ≡ n
-mapped-length f a zero = refl
-mapped-length f a (suc n) = ap suc (mapped-length f (a + 1) n)
-
-mapped-at : (f : ℕ → Bool) (a n i : ℕ) → i < n → get_or (map f (range_with_len a n)) i false ≡ f (a + i)
-mapped-at f a zero i h = absurd (omega arith)
-mapped-at f a (suc n) zero h = let e : a ≡ a + 0 = omega arith in ap f e
-mapped-at f a (suc n) (suc i) h = let e : a + 1 + i ≡ a + suc i = omega arith in mapped-at f (a + 1) n i (omega arith) ∙ ap f e
-
 -- the value of each output, in port order
 outputs_of : (N : Network) → IsNetwork N → List Bool → List Bool
 outputs_of N net values = map (λ port. value_of values (edge_into N.edges (port_node N net port) 0)) (range_with_len 0 (output_count N))
@@ -190,12 +176,11 @@ some-gives N net bits = record {
   given = refl;
   values = made N bits (length N.edges);
   valuation = valuation-of N net bits;
-  all = mapped-length _ 0 (output_count N);
+  all = length-map-range_with_len _ 0 (output_count N);
   read = λ v port has.
       let low = net.outputs_within v port has in
       let same : port_node N net port ≡ v = net.outputs_apart (port_node N net port) v port (port-has N net port low) has in
-      mapped-at (λ (p : ℕ). value_of (made N bits (length N.edges)) (edge_into N.edges (port_node N net p) 0)) 0 (output_count N) port low
-      ∙ ap (λ (p : ℕ). value_of (made N bits (length N.edges)) (edge_into N.edges (port_node N net p) 0)) (zero-add port)
+      get_or-map-range_with_len (λ (p : ℕ). value_of (made N bits (length N.edges)) (edge_into N.edges (port_node N net p) 0)) 0 (output_count N) port port false low (zero-add port)
       ∙ ap (λ (u : ℕ). value_of (made N bits (length N.edges)) (edge_into N.edges u 0)) same;
 }
 

@@ -1,8 +1,8 @@
 -- A node's kind and the lengths of its longest paths say which rows are in its window.
-use Rattle.std.proofs.Common.{◌≤◌, arith, ℕ, Bool, subst}
+use Rattle.std.proofs.Common.{◌<◌, ◌≤◌, ◌-◌, arith, ℕ, Bool, subst}
 use Rattle.std.specs.Prelude.{IsTrue, ◌↔◌}
 use Rattle.bx_forms.specs.declared.kind.Kind.{Kind}
-use Rattle.bx_forms.specs.declared.kind.Kind.TheVariants.{Input, Output, Not, Fan, And, Or, Nand, Nor, Xor, Xnor}
+use Rattle.bx_forms.specs.declared.kind.Kind.TheVariants.{Input, Output}
 use Rattle.bx_network.specs.Networks.{Network, HasKind}
 use Rattle.bx_network.specs.Paths.{IsDown, IsUp}
 use Rattle.bx_network.specs.Windows.{MayStand, IsInWindow, EarliestFrom, LatestTo}
@@ -21,24 +21,17 @@ window-is N v kind down up row height b has is_down is_up says = (
 
 pub not-before : (kind : Kind) (down up row height a : ℕ) → MayStand kind down up row height → EarliestFrom kind down height a → a ≤ row
 not-before Input down up row height a stands from = omega arith
-not-before Output down up row height a stands from = omega arith
-not-before Not down up row height a stands from = omega arith
-not-before Fan down up row height a stands from = omega arith
-not-before And down up row height a stands from = omega arith
-not-before Or down up row height a stands from = omega arith
-not-before Nand down up row height a stands from = omega arith
-not-before Nor down up row height a stands from = omega arith
-not-before Xor down up row height a stands from = omega arith
-not-before Xnor down up row height a stands from = omega arith
+not-before _ down up row height a stands from = omega arith
 
 pub not-behind : (kind : Kind) (down up row height b : ℕ) → MayStand kind down up row height → LatestTo kind up height b → row ≤ b
 not-behind Input down up row height b stands to = omega arith
-not-behind Output down up row height b stands to = omega arith
-not-behind Not down up row height b stands to = omega arith
-not-behind Fan down up row height b stands to = omega arith
-not-behind And down up row height b stands to = omega arith
-not-behind Or down up row height b stands to = omega arith
-not-behind Nand down up row height b stands to = omega arith
-not-behind Nor down up row height b stands to = omega arith
-not-behind Xor down up row height b stands to = omega arith
-not-behind Xnor down up row height b stands to = omega arith
+not-behind _ down up row height b stands to = omega arith
+
+-- and where there is room, a row that is neither before the earliest row nor behind the latest is one of them
+pub between : (kind : Kind) (down up row height : ℕ) → up < height → ((a : ℕ) → EarliestFrom kind down height a → a ≤ row) →
+    ((b : ℕ) → LatestTo kind up height b → row ≤ b) → MayStand kind down up row height
+between Input down up row height room from to = let low = to 0 (omega arith) in omega arith
+between Output down up row height room from to =
+    let low = from (height - 1) (omega arith) in let high = to (height - 1) (omega arith) in omega arith
+between _ down up row height room from to =
+    let low = from down (omega arith) in let high = to (height - 1 - up) (omega arith) in (low, omega arith)

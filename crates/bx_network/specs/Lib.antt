@@ -4,3 +4,4 @@ pub mod Paths
 pub mod Windows
 pub mod Mapped
 pub mod Examples
+pub mod WrittenOut

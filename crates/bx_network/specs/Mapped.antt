@@ -1,11 +1,15 @@
 -- What a mapped network keeps beside its nodes and edges: the lengths of longest paths, and where edges are
 -- found.
-use Rattle.std.specs.Prelude.{◌≡◌, ℕ, ◌+◌, ◌*◌, ◌<◌, List, length, slice_index}
+use Rattle.std.specs.Prelude.{◌≡◌, ℕ, ◌+◌, ◌*◌, ◌<◌, List, length, max, slice_index, slice_set}
 use Rattle.bx_forms.specs.declared.kind.Kind.{Kind}
 use Rattle.bx_forms.specs.Kinds.{operands, slots}
 use Rattle.bx_network.specs.Networks.{Network, IsNetwork, HasKind}
 use Rattle.bx_network.specs.Values.{edge_into, edge_out}
 use Rattle.bx_network.specs.Paths.{IsDown, IsUp}
+
+-- the lengths once an edge counts that leads from one place to another: there it is at least one more
+abbrev pub with_edge : List ℕ → ℕ → ℕ → List ℕ
+with_edge lengths from to = slice_set lengths to (max (slice_index lengths to) (slice_index lengths from + 1))
 
 -- for each node the length of a longest path from an input to it
 pub record AreDowns (N : Network) (lengths : List ℕ) : Type 0 where

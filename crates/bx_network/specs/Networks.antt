@@ -12,6 +12,10 @@ pub record Network : Type 0 where
   pub nodes : List Node
   pub edges : List Edge
 
+-- the network of these nodes and edges
+abbrev pub network_of : List Node → List Edge → Network
+network_of nodes edges = record { nodes = nodes; edges = edges }
+
 -- whether an edge leaves this node by this slot, and whether it enters it by this operand
 abbrev pub leaves_by : ℕ → ℕ → Edge → Bool
 leaves_by v slot e = (e.source == v) && (e.slot == slot)
@@ -20,12 +24,12 @@ abbrev pub enters_by : ℕ → ℕ → Edge → Bool
 enters_by v operand e = (e.target == v) && (e.operand == operand)
 
 -- the edges that leave this node by this slot
-abbrev pub leaving : List Edge → ℕ → ℕ → List Edge
-leaving edges v slot = filter (leaves_by v slot) edges
+abbrev pub fan_out : List Edge → ℕ → ℕ → List Edge
+fan_out edges v slot = filter (leaves_by v slot) edges
 
 -- the edges that enter this node by this operand
-abbrev pub entering : List Edge → ℕ → ℕ → List Edge
-entering edges v operand = filter (enters_by v operand) edges
+abbrev pub fan_in : List Edge → ℕ → ℕ → List Edge
+fan_in edges v operand = filter (enters_by v operand) edges
 
 -- by source, and then by slot
 abbrev pub IsBefore : Edge → Edge → Type 0
@@ -66,8 +70,8 @@ pub record IsNetwork (N : Network) : Type 0 where
   pub few_edges : length N.edges < 4294967296
   pub within : AllByRecursion (λ e. e.target < length N.nodes) N.edges
   pub forward : AllByRecursion (λ e. e.source < e.target) N.edges
-  pub leaves : (v : ℕ) (kind : Kind) → HasKind N v kind → (slot : ℕ) → length (leaving N.edges v slot) ≡ one_if (nat_lt slot (slots kind))
-  pub enters : (v : ℕ) (kind : Kind) → HasKind N v kind → (operand : ℕ) → length (entering N.edges v operand) ≡ one_if (nat_lt operand (operands kind))
+  pub leaves : (v : ℕ) (kind : Kind) → HasKind N v kind → (slot : ℕ) → length (fan_out N.edges v slot) ≡ one_if (nat_lt slot (slots kind))
+  pub enters : (v : ℕ) (kind : Kind) → HasKind N v kind → (operand : ℕ) → length (fan_in N.edges v operand) ≡ one_if (nat_lt operand (operands kind))
   pub ascending : AllPairs IsBefore N.edges
   pub inputs_apart : (u v port : ℕ) → HasPort N u Input port → HasPort N v Input port → u ≡ v
   pub outputs_apart : (u v port : ℕ) → HasPort N u Output port → HasPort N v Output port → u ≡ v

@@ -27,13 +27,13 @@ abbrev pub node_reads : Kind → Bool → List Bool → List Bool
 node_reads Input given entering = given ∷ []
 node_reads _ given entering = entering
 
-abbrev pub reads : Network → List Bool → List Bool → ℕ → Node → List Bool
-reads N bits values v node = node_reads node.kind (value_of bits node.port) (values_into N.edges values v node.kind)
+abbrev pub operand_values : Network → List Bool → List Bool → ℕ → Node → List Bool
+operand_values N bits values v node = node_reads node.kind (value_of bits node.port) (values_into N.edges values v node.kind)
 
 -- where the input ports have these values, each edge has the value that its source gives to its slot
 pub record IsValuation (N : Network) (bits values : List Bool) : Type 0 where
   pub whole : length values ≡ length N.edges
-  pub each : (i : ℕ) (e : Edge) (node : Node) → slice_get N.edges i ≡ Some e → slice_get N.nodes e.source ≡ Some node → value_of values i ≡ gives node.kind (reads N bits values e.source node) e.slot
+  pub each : (i : ℕ) (e : Edge) (node : Node) → slice_get N.edges i ≡ Some e → slice_get N.nodes e.source ≡ Some node → value_of values i ≡ gives node.kind (operand_values N bits values e.source node) e.slot
 
 -- there is one valuation, and no other
 pub record IsOnlyValuation (N : Network) (bits values : List Bool) : Type 0 where

@@ -1,7 +1,7 @@
 //! Which edge leaves a node by a slot, and which enters it by an operand, each found at one place.
 ghost use Rattle.std.specs.Prelude.{◌≡◌, ◌<◌, ◌+◌, ◌*◌, IfOk, slice_index, length};
 ghost use Rattle.bx_forms.specs.Kinds.{operands, slots};
-ghost use Rattle.bx_network.specs.Networks.{IsNetwork, Network, HasKind};
+ghost use Rattle.bx_network.specs.Networks.{IsNetwork, network_of, HasKind};
 ghost use Rattle.bx_network.specs.Mapped.{AreEnds};
 
 use crate::{Edge, Node};
@@ -22,8 +22,9 @@ pub struct Ends {
 impl Ends {
     // Those of a network. Time and memory are linear.
     pub fn of(alloc: Global, nodes: &[Node], edges: &[Edge]) -> Result<Ends, NoMemory>
-        requires { IsNetwork (record { nodes = nodes.now; edges = edges.now }) }
-        ensures { IfOk result (λ ends. AreEnds (record { nodes = nodes.now; edges = edges.now }) ends.outs.items ends.ins.items) }
+        requires { IsNetwork (network_of nodes.now edges.now) }
+        ensures { IfOk result (λ ends.
+            AreEnds (network_of nodes.now edges.now) ends.outs.items ends.ins.items) }
     {
         let mut outs = vec![in alloc; 0u32; WAYS * nodes.len()]?;
         let mut ins = vec![in alloc; 0u32; WAYS * nodes.len()]?;

@@ -1,8 +1,8 @@
 //! How long the longest paths of a network are, from the inputs and to the outputs, for all nodes in one
 //! walk over the edges each.
-ghost use Rattle.std.specs.Prelude.{◌≡◌, ◌<◌, ◌+◌, IfOk, max, slice_index, slice_set, length};
-ghost use Rattle.bx_network.specs.Networks.{IsNetwork, Network};
-ghost use Rattle.bx_network.specs.Mapped.{AreDowns, AreUps};
+ghost use Rattle.std.specs.Prelude.{◌≡◌, ◌<◌, IfOk, slice_index, length};
+ghost use Rattle.bx_network.specs.Networks.{IsNetwork, network_of};
+ghost use Rattle.bx_network.specs.Mapped.{AreDowns, AreUps, with_edge};
 
 use crate::{Edge, Node};
 use bx_logic::NoMemory;
@@ -11,8 +11,8 @@ use std::alloc::Global;
 // For each node how long the longest path from an input to it is. An edge stands behind those that enter
 // its source, so one walk is enough.
 pub fn downs(alloc: Global, nodes: &[Node], edges: &[Edge]) -> Result<Vec<u32>, NoMemory>
-    requires { IsNetwork (record { nodes = nodes.now; edges = edges.now }) }
-    ensures { IfOk result (λ lengths. AreDowns (record { nodes = nodes.now; edges = edges.now }) lengths.items) }
+    requires { IsNetwork (network_of nodes.now edges.now) }
+    ensures { IfOk result (λ lengths. AreDowns (network_of nodes.now edges.now) lengths.items) }
 {
     let mut lengths = vec![in alloc; 0u32; nodes.len()]?;
     for number in 0..edges.len() {
@@ -25,8 +25,8 @@ pub fn downs(alloc: Global, nodes: &[Node], edges: &[Edge]) -> Result<Vec<u32>, 
 // For each node how long the longest path from it to an output is, by a walk from the last edge to the
 // first.
 pub fn ups(alloc: Global, nodes: &[Node], edges: &[Edge]) -> Result<Vec<u32>, NoMemory>
-    requires { IsNetwork (record { nodes = nodes.now; edges = edges.now }) }
-    ensures { IfOk result (λ lengths. AreUps (record { nodes = nodes.now; edges = edges.now }) lengths.items) }
+    requires { IsNetwork (network_of nodes.now edges.now) }
+    ensures { IfOk result (λ lengths. AreUps (network_of nodes.now edges.now) lengths.items) }
 {
     let mut lengths = vec![in alloc; 0u32; nodes.len()]?;
     for done in 0..edges.len() {
@@ -41,7 +41,7 @@ fn raise(lengths: &mut Vec<u32>, from: u32, to: u32)
     requires from_within { from < length lengths.old.items }
     requires to_within { to < length lengths.old.items }
     requires short { slice_index lengths.old.items from < 4294967295 }
-    ensures { lengths.new.items ≡ slice_set lengths.old.items to (max (slice_index lengths.old.items to) (slice_index lengths.old.items from + 1)) }
+    ensures { lengths.new.items ≡ with_edge lengths.old.items from to }
 {
     let longer = lengths[from as usize] + 1;
     let own = lengths[to as usize];

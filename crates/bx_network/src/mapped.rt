@@ -2,7 +2,7 @@
 //! where each of its edges is found, made once. Which networks come of a net is for the mapping to say.
 ghost use Rattle.std.specs.Prelude.{◌≡◌, ◌<◌, ◌↔◌, ℕ, IfOk, IsTrue, Some, length, slice_get};
 ghost use Rattle.bx_forms.specs.declared.kind.Kind.TheVariants.{Input};
-ghost use Rattle.bx_network.specs.Networks.{IsNetwork, HasSlot, HasOperand, HasPort};
+ghost use Rattle.bx_network.specs.Networks.{IsNetwork, network_of, HasSlot, HasOperand, HasPort};
 ghost use Rattle.bx_network.specs.Values.{edge_into, edge_out};
 ghost use Rattle.bx_network.specs.Paths.{IsDown, IsUp};
 ghost use Rattle.bx_network.specs.Windows.{IsInWindow, MayStand};
@@ -30,18 +30,20 @@ impl Model for MappedNet {
 
     ghost Value = { Network };
 
+    ghost use Rattle.bx_network.specs.Networks.{network_of};
     ghost use Rattle.bx_network.specs.Mapped.{IsMapped};
 
-    ghost view = { λ net. record { nodes = net.nodes.items; edges = net.edges.items } };
+    ghost view = { λ net. network_of net.nodes.items net.edges.items };
 
-    ghost invariant = { λ net. IsMapped (record { nodes = net.nodes.items; edges = net.edges.items }) net.downs.items net.ups.items net.ends.outs.items net.ends.ins.items };
+    ghost invariant = { λ net. IsMapped (network_of net.nodes.items net.edges.items)
+        net.downs.items net.ups.items net.ends.outs.items net.ends.ins.items };
 }
 
 impl MappedNet {
     /// The network of these nodes and edges. Time and memory are linear in their number.
     pub fn new(alloc: Global, nodes: Vec<Node>, edges: Vec<Edge>) -> Result<MappedNet, NoMemory>
-        requires { IsNetwork (record { nodes = nodes.items; edges = edges.items }) }
-        ensures { IfOk result (λ net. net ≡ record { nodes = nodes.items; edges = edges.items }) }
+        requires { IsNetwork (network_of nodes.items edges.items) }
+        ensures { IfOk result (λ net. net ≡ network_of nodes.items edges.items) }
     {
         let downs = lengths::downs(alloc, &nodes, &edges)?;
         let ups = lengths::ups(alloc, &nodes, &edges)?;

@@ -1,6 +1,7 @@
 //! Networks of the tests, written out by node and by edge. That each is a network is computed from the lists.
 ghost use Rattle.std.specs.Prelude.{◌≡◌, IfOk, IsTrue};
-ghost use Rattle.bx_samples.specs.WrittenOut.{is_network};
+ghost use Rattle.bx_network.specs.Networks.{network_of};
+ghost use Rattle.bx_network.specs.WrittenOut.{is_network};
 
 use bx_forms::Kind;
 use bx_logic::NoMemory;
@@ -147,7 +148,7 @@ pub fn branching(alloc: Global) -> Result<MappedNet, NoMemory> {
 
 fn net_of(alloc: Global, nodes: &[Node], edges: &[Edge]) -> Result<MappedNet, NoMemory>
     requires { IsTrue (is_network nodes.now edges.now) }
-    ensures { IfOk result (λ net. net ≡ record { nodes = nodes.now; edges = edges.now }) }
+    ensures { IfOk result (λ net. net ≡ network_of nodes.now edges.now) }
 {
     let nodes = Vec::from_slice(alloc, nodes)?;
     let edges = Vec::from_slice(alloc, edges)?;

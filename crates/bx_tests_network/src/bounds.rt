@@ -2,7 +2,7 @@
 //! changed. What a clause says is not tested again.
 
 use crate::asserts::{are_numbers_in_row, is_bool_in_row};
-use bx_bounds::{MOST_NODES, check_count, refute};
+use bx_bounds::{MOST_COUNTED, check_count, refute};
 use bx_grid::{CountProof, Ratio};
 use bx_network::MappedNet;
 use bx_samples::{conjunction, half_adder, inversion, twice, unused};
@@ -110,7 +110,7 @@ fn are_first(rt: &impl Abort, net: &MappedNet, rows: &[Row]) -> Result<(), Fail>
 }
 
 fn first_proof(net: &MappedNet, ratio: Ratio) -> Result<Option<CountProof>, Fail> {
-    if net.node_count() as usize <= MOST_NODES {
+    if net.node_count() as usize <= MOST_COUNTED {
         Ok(refute(net, ratio))
     } else {
         Err("too many nodes".into())
@@ -137,7 +137,7 @@ fn holds(net: &MappedNet, ratio: Ratio, proof: Option<CountProof>) -> Result<boo
 }
 
 fn refutes(net: &MappedNet, ratio: Ratio, proof: CountProof) -> Result<bool, Fail> {
-    if net.node_count() as usize <= MOST_NODES {
+    if net.node_count() as usize <= MOST_COUNTED {
         Ok(check_count(net, ratio, proof))
     } else {
         Err("too many nodes".into())

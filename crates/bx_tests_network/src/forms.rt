@@ -47,27 +47,6 @@ fn no_form_has_another_name(rt: HostRuntime) {
     }
 }
 
-// The names of the constants.
-const CONSTANTS: &[&str] = &["input_r", "output_l", "output_r", "not_ll", "not_rr"];
-
-#[test]
-fn constants_are_the_forms_that_they_name(rt: HostRuntime) {
-    for (place, &name) in CONSTANTS.iter().enumerate() {
-        is_text(&rt, name_of(constant(place)), name);
-    }
-}
-
-fn constant(place: usize) -> Option<Form> {
-    match place {
-        0 => Some(Form::INPUT_R),
-        1 => Some(Form::OUTPUT_L),
-        2 => Some(Form::OUTPUT_R),
-        3 => Some(Form::NOT_LL),
-        4 => Some(Form::NOT_RR),
-        _ => None,
-    }
-}
-
 fn named(name: &str) -> Result<Form, Fail> {
     Ok(Form::by_name(name).ok_or("no form has this name")?)
 }

@@ -1,5 +1,5 @@
-//! Tests of the networks, of the forms and grids that they stand on, and of layouts and counts. The values were
-//! worked out by hand. Nothing here is part of a program.
+//! Tests of nets and networks, of the forms and grids that they stand on, and of layouts and counts. The values
+//! were worked out by hand. Nothing here is part of a program.
 #![tactic(auto)]
 
 #[cfg(test)]
@@ -12,6 +12,8 @@ mod forms;
 mod grid;
 #[cfg(test)]
 mod layout;
+#[cfg(test)]
+mod logic;
 #[cfg(test)]
 mod map;
 #[cfg(test)]

@@ -1,4 +1,4 @@
-//! Nets written out by their drivers, for the tests of the mapping. What makes a net is tested first.
+//! Nets written out by their drivers, for the tests of nets and of the mapping. What makes a net is tested first.
 ghost use Rattle.std.specs.Prelude.{◌≡◌, ◌<◌, IsTrue, IfOk, All, length, map};
 ghost use Rattle.bx_logic.specs.Nets.{HasArity};
 ghost use Rattle.bx_logic.specs.Ascending.{MayStandAt, IsAscending};

@@ -1,14 +1,10 @@
-use Rattle.std.proofs.Common.{◌≡◌, ℕ, zero, suc, ◌<◌, Bool, true, false, List, [], ◌∷◌, refl, arith}
-use Rattle.std.specs.Prelude.{not}
+use Rattle.std.proofs.Common.{◌≡◌, ℕ, zero, suc, ◌<◌, Bool, List, [], ◌∷◌, refl, arith}
 use Rattle.bx_logic.specs.declared.op.Op.TheVariants.{Buf}
 use Rattle.bx_logic.specs.declared.driver.Driver.TheVariants.{Gate}
 use Rattle.bx_logic.specs.Nets.{driver_at}
 use Rattle.bx_logic.specs.Values.{value_of, driver_value}
+use Rattle.bx_logic.proofs.Bools.{not-itself}
 use Rattle.bx_logic.proofs.laws.a_loop_has_no_valuation_or_two.Goals as goal
-
-not-itself : (b : Bool) → b ≡ not b → ⊥
-not-itself true e = cc
-not-itself false e = cc
 
 copies : (bits : List Bool) (b : Bool) (n : ℕ) → n < 1 → value_of (b ∷ []) n ≡ driver_value bits (value_of (b ∷ [])) (driver_at (Gate Buf (0 ∷ []) ∷ []) n)
 copies bits b zero h = refl

@@ -4,7 +4,7 @@ use Rattle.std.proofs.lemmas.List.{length-replicate, length-set}
 use Rattle.bx_map.specs.declared.cell.Cell.TheVariants as cell
 use Rattle.bx_map.specs.declared.cell.Value.{Value}
 use Rattle.bx_map.specs.declared.cell.Value.TheVariants.{Constant}
-use Rattle.bx_map.specs.Folds.{Folding, driver_folded}
+use Rattle.bx_map.specs.Folds.{Folding, driver_fold}
 use Rattle.bx_map.proofs.FoldSteps.{arguments-valued, folding-begin, folding-next, folding-end}
 use Rattle.bx_map.proofs.fold.fold_net.Goals as goal
 
@@ -34,7 +34,7 @@ loop-n-preserved c =
       whole = length-set c.loop-n.values.items n c.in_ok-values-2.field-0 ∙ c.loop-n.invariant.whole;
       folds = folding-next net c.len.ensures.net c.loop-n.values.items (set c.loop-n.values.items n c.in_ok-values-2.field-0) c.loop-n.cells.items c.driver_value.new.cells.items
           c.deref-n-items.result.now c.loop-n.n-index n c.in_ok-values-2.field-0 c.driver.result.now c.loop-n-test.true refl c.driver.ensures
-          (c.in_ok-values-2.ensures ∙ ap (λ (vs : List Value). driver_folded vs c.loop-n.cells.items c.driver.result.now) c.deref.ensures.value) refl
+          (c.in_ok-values-2.ensures ∙ ap (λ (vs : List Value). driver_fold vs c.loop-n.cells.items c.driver.result.now) c.deref.ensures.value) refl
           c.loop-n.invariant.folds;
     }
 

@@ -1,14 +1,14 @@
 use Rattle.std.proofs.Common.{◌≡◌, ◌∙◌, ◌+◌, ◌-◌, ◌<◌, Bool, List, ℕ, length, ap, subst, arith}
 use Rattle.bx_logic.proofs.Cycles.{read-at}
 use Rattle.bx_map.specs.Cells.{cell_net}
-use Rattle.bx_map.specs.Marks.{marked}
+use Rattle.bx_map.specs.Marks.{with_marks}
 use Rattle.bx_map.proofs.Staying.{IsMarking, marking-begin, marking-wants, marking-lacks, marking-end}
 use Rattle.bx_map.proofs.keep.marks_of.Goals as goal
 
 pub loop-i-init : goal.loop-i-init
 loop-i-init c =
     marking-begin (cell_net c.args.cells.now c.args.outputs.now) c.requires c.mark_all.new.marks.items
-    (c.mark_all.ensures ∙ ap (λ (ms : List Bool). marked ms c.args.outputs.now) (c.in_ok-marks.ensures.items_if_clones_equal (λ y e. e)))
+    (c.mark_all.ensures ∙ ap (λ (ms : List Bool). with_marks ms c.args.outputs.now) (c.in_ok-marks.ensures.items_if_clones_equal (λ y e. e)))
 
 pub loop-i-preserved-then-index : goal.loop-i-preserved-then-index
 loop-i-preserved-then-index c =

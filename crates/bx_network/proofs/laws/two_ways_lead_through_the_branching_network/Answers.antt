@@ -1,4 +1,4 @@
-use Rattle.bx_network.proofs.NearMisses.{branching_is_network, down_of_and, up_of_fan, branching_values, branching_window}
+use Rattle.bx_network.proofs.NearMisses.{branching_is_network, down_of_and, up_of_fan, branching_valued, branching_window}
 use Rattle.bx_network.proofs.laws.two_ways_lead_through_the_branching_network.Goals as goal
 
 pub returns-clause-network : goal.returns-clause-network
@@ -11,7 +11,7 @@ pub returns-clause-up : goal.returns-clause-up
 returns-clause-up c = up_of_fan
 
 pub returns-clause-values : goal.returns-clause-values
-returns-clause-values c = branching_values
+returns-clause-values c = branching_valued
 
 pub returns-clause-window : goal.returns-clause-window
 returns-clause-window c = branching_window

@@ -1,7 +1,6 @@
 use Rattle.std.proofs.Common.{ap₂, sym, subst}
-use Rattle.bx_network.specs.Networks.{IsNetwork}
-use Rattle.bx_network.proofs.NearMisses.{network_of}
-use Rattle.bx_samples.proofs.PassingNetworks.{network-passes}
+use Rattle.bx_network.specs.Networks.{IsNetwork, network_of}
+use Rattle.bx_network.proofs.PassingNetworks.{network-passes}
 use Rattle.bx_samples.proofs.networks.net_of.Goals as goal
 
 pub new-requires : goal.new-requires

@@ -6,7 +6,7 @@ use Rattle.bx_logic.specs.Known.{IsKnown, known_value}
 use Rattle.bx_logic.specs.Values.{driver_value}
 use Rattle.bx_logic.proofs.Valuations.{net-reads_within}
 use Rattle.bx_logic.proofs.Ways.{last-within, step-advance, step-finish, step-less, IsStep, all_known, keeps-set, right-set}
-use Rattle.bx_logic.proofs.net.Net.settle.Goals as goal
+use Rattle.bx_logic.proofs.net.Net.make_known.Goals as goal
 
 pub driver-driver-requires : goal.driver-driver-requires
 driver-driver-requires c = last-within _ _ _ c.pop.new.self.items c.in-Some.frame c.in-Some.ensures.items c.loop-frame.invariant.way

@@ -1,16 +1,16 @@
 -- Lists that pass the test are a network.
 use Rattle.std.proofs.Common.{◌≡◌, ◌≢◌, ℕ, zero, suc, ◌+◌, ◌<◌, ◌≤◌, ◌==◌, ◌&&◌, ◌||◌, ◌⊎◌, nat_lt, not, Bool, true, false, List, [], ◌∷◌, length, slice_get, Option, Some, IsTrue, inl, inr, refl, sym, ap, ap₂, ◌∙◌, subst, arith, zero-add, le-ltb, ne_eqb, eq-eqb}
-use Rattle.std.proofs.lemmas.Bool.{and_parts, or_cases, ltb-true, eqb-true, not-true}
+use Rattle.std.proofs.lemmas.Bool.{and_parts, and_right, or_cases, ltb-true, eqb-true, not-true}
 use Rattle.std.specs.List.{AllByRecursion}
 use Rattle.bx_forms.specs.declared.kind.Kind.{Kind}
-use Rattle.bx_forms.specs.declared.kind.Kind.TheVariants.{Input, Output, Not, Fan, And, Or, Nand, Nor, Xor, Xnor}
+use Rattle.bx_forms.specs.declared.kind.Kind.TheVariants.{Input, Output}
 use Rattle.bx_forms.specs.Kinds.{operands, slots}
 use Rattle.bx_logic.proofs.Ordered.{Ascends, AllPairs-from_ascends}
 use Rattle.bx_network.specs.declared.node.Node.{Node}
 use Rattle.bx_network.specs.declared.node.Edge.{Edge}
-use Rattle.bx_network.specs.Networks.{Network, IsNetwork, IsBefore, HasKind, HasPort, leaving, entering, leaves_by, enters_by, is_output, output_count, one_if}
+use Rattle.bx_network.specs.Networks.{Network, network_of, IsNetwork, IsBefore, HasKind, HasPort, fan_out, fan_in, leaves_by, enters_by, is_output, output_count, one_if}
 use Rattle.bx_network.proofs.Networks.{operands-few, slots-few}
-use Rattle.bx_samples.specs.WrittenOut.{each_passes, some_passes, each_pair_passes, each_numbered_passes, edge_passes, is_before, is_input, has_ways, has_edges, has_port, are_apart, is_output_at, has_outputs, is_network}
+use Rattle.bx_network.specs.WrittenOut.{each_passes, some_passes, each_pair_passes, each_numbered_passes, edge_passes, is_before, is_input, has_ways, has_edges, has_port, are_apart, is_output_at, has_outputs, is_network}
 
 -- ---- lists
 
@@ -62,26 +62,22 @@ numbered-got p v (y ∷ ys) (suc i) x e at =
 
 -- ---- edges
 
-second_false : (p q : Bool) → q ≡ false → (p && q) ≡ false
-second_false true q e = e
-second_false false q e = refl
-
 -- no edge leaves by a slot, or enters by an operand, from 2 on
-leaving_past : (edges : List Edge) (v slot : ℕ) → AllByRecursion (λ e. e.slot < 2) edges → 2 ≤ slot → leaving edges v slot ≡ []
-leaving_past [] v slot few h = refl
-leaving_past (e ∷ es) v slot few h =
+fan_out_past : (edges : List Edge) (v slot : ℕ) → AllByRecursion (λ e. e.slot < 2) edges → 2 ≤ slot → fan_out edges v slot ≡ []
+fan_out_past [] v slot few h = refl
+fan_out_past (e ∷ es) v slot few h =
     let low = few.0 in
     let other = ne_eqb e.slot slot (omega arith) in
-    let no : leaves_by v slot e ≡ false = second_false _ _ other in
-    rw no (leaving_past es v slot few.1 h)
+    let no : leaves_by v slot e ≡ false = and_right _ _ other in
+    rw no (fan_out_past es v slot few.1 h)
 
-entering_past : (edges : List Edge) (v operand : ℕ) → AllByRecursion (λ e. e.operand < 2) edges → 2 ≤ operand → entering edges v operand ≡ []
-entering_past [] v operand few h = refl
-entering_past (e ∷ es) v operand few h =
+fan_in_past : (edges : List Edge) (v operand : ℕ) → AllByRecursion (λ e. e.operand < 2) edges → 2 ≤ operand → fan_in edges v operand ≡ []
+fan_in_past [] v operand few h = refl
+fan_in_past (e ∷ es) v operand few h =
     let low = few.0 in
     let other = ne_eqb e.operand operand (omega arith) in
-    let no : enters_by v operand e ≡ false = second_false _ _ other in
-    rw no (entering_past es v operand few.1 h)
+    let no : enters_by v operand e ≡ false = and_right _ _ other in
+    rw no (fan_in_past es v operand few.1 h)
 
 -- a count that is as wanted at 0 and 1, and 0 from 2 on
 ways-say : (count : ℕ → ℕ) (most : ℕ) → most ≤ 2 → has_ways count most ≡ true → ((k : ℕ) → 2 ≤ k → count k ≡ 0) → (k : ℕ) → count k ≡ one_if (nat_lt k most)
@@ -111,29 +107,14 @@ edge-says nodes e h =
 -- ---- nodes
 
 output-says : (kind : Kind) → is_output kind ≡ true → kind ≡ Output
-output-says Input e = absurd (cc)
 output-says Output e = refl
-output-says Not e = absurd (cc)
-output-says Fan e = absurd (cc)
-output-says And e = absurd (cc)
-output-says Or e = absurd (cc)
-output-says Nand e = absurd (cc)
-output-says Nor e = absurd (cc)
-output-says Xor e = absurd (cc)
-output-says Xnor e = absurd (cc)
+output-says _ e = absurd (cc)
 
 -- a node that is neither an input nor an output has port 0
 gate-port : (outputs : ℕ) (kind : Kind) (port : ℕ) → kind ≢ Input → kind ≢ Output → has_port outputs (record { kind = kind; port = port }) ≡ true → port ≡ 0
 gate-port outputs Input port one other e = absurd (one refl)
 gate-port outputs Output port one other e = absurd (other refl)
-gate-port outputs Not port one other e = eqb-true port 0 e
-gate-port outputs Fan port one other e = eqb-true port 0 e
-gate-port outputs And port one other e = eqb-true port 0 e
-gate-port outputs Or port one other e = eqb-true port 0 e
-gate-port outputs Nand port one other e = eqb-true port 0 e
-gate-port outputs Nor port one other e = eqb-true port 0 e
-gate-port outputs Xor port one other e = eqb-true port 0 e
-gate-port outputs Xnor port one other e = eqb-true port 0 e
+gate-port outputs _ port one other e = eqb-true port 0 e
 
 input-itself : (port : ℕ) → are_apart (record { kind = Input; port = port }) (record { kind = Input; port = port }) ≡ false
 input-itself port = ap not (eq-eqb port port refl)
@@ -162,9 +143,9 @@ output-found nodes port (i, node, at, passes) =
     let own = eqb-true node.port port parts.1 in
     (i, at ∙ ap₂ (λ k p. some_node k p) kind own)
 
-pub network-passes : (nodes : List Node) (edges : List Edge) → IsTrue (is_network nodes edges) → IsNetwork (record { nodes = nodes; edges = edges })
+pub network-passes : (nodes : List Node) (edges : List Edge) → IsTrue (is_network nodes edges) → IsNetwork (network_of nodes edges)
 network-passes nodes edges e =
-    let N : Network = record { nodes = nodes; edges = edges } in
+    let N : Network = network_of nodes edges in
     let (few, rest) = and_parts _ _ e in
     let (edges_pass, more) = and_parts _ _ rest in
     let (ways_pass, others) = and_parts _ _ more in
@@ -181,15 +162,15 @@ network-passes nodes edges e =
           let both = numbered-got (has_edges edges) 0 nodes v node ways_pass is in
           let here : 0 + v ≡ v = zero-add v in
           let own : has_edges edges v node ≡ true = subst (λ (w : ℕ). has_edges edges w node ≡ true) here both in
-          subst (λ (k : Kind). length (leaving edges v slot) ≡ one_if (nat_lt slot (slots k))) same
-          (ways-say (λ slot. length (leaving edges v slot)) (slots node.kind) (slots-few node.kind) (and_parts _ _ own).0 (λ k past. ap length (leaving_past edges v k slots_few past)) slot);
+          subst (λ (k : Kind). length (fan_out edges v slot) ≡ one_if (nat_lt slot (slots k))) same
+          (ways-say (λ slot. length (fan_out edges v slot)) (slots node.kind) (slots-few node.kind) (and_parts _ _ own).0 (λ k past. ap length (fan_out_past edges v k slots_few past)) slot);
       enters = λ v kind (node, is, same) operand.
           let operands_few = each-all (edge_passes (length nodes)) (λ (d : Edge). d.operand < 2) edges (λ d h. (edge-says (length nodes) d h).operand) each_edge in
           let both = numbered-got (has_edges edges) 0 nodes v node ways_pass is in
           let here : 0 + v ≡ v = zero-add v in
           let own : has_edges edges v node ≡ true = subst (λ (w : ℕ). has_edges edges w node ≡ true) here both in
-          subst (λ (k : Kind). length (entering edges v operand) ≡ one_if (nat_lt operand (operands k))) same
-          (ways-say (λ operand. length (entering edges v operand)) (operands node.kind) (operands-few node.kind) (and_parts _ _ own).1 (λ k past. ap length (entering_past edges v k operands_few past)) operand);
+          subst (λ (k : Kind). length (fan_in edges v operand) ≡ one_if (nat_lt operand (operands k))) same
+          (ways-say (λ operand. length (fan_in edges v operand)) (operands node.kind) (operands-few node.kind) (and_parts _ _ own).1 (λ k past. ap length (fan_in_past edges v k operands_few past)) operand);
       ascending = AllPairs-from_ascends IsBefore edges (pairs-ascend is_before IsBefore edges before-says ordered);
       inputs_apart = λ u v port at_u at_v. stands-once are_apart nodes (record { kind = Input; port = port }) (input-itself port) apart u v at_u at_v;
       outputs_apart = λ u v port at_u at_v. stands-once are_apart nodes (record { kind = Output; port = port }) (output-itself port) apart u v at_u at_v;

@@ -6,7 +6,7 @@ use Rattle.bx_forms.specs.declared.kind.Kind.TheVariants.{Input, Output}
 use Rattle.bx_forms.specs.Kinds.{operands, slots}
 use Rattle.bx_network.specs.declared.node.Node.{Node}
 use Rattle.bx_network.specs.declared.node.Edge.{Edge}
-use Rattle.bx_network.specs.Networks.{Network, leaving, entering, is_output, output_count, one_if}
+use Rattle.bx_network.specs.Networks.{network_of, fan_out, fan_in, is_output, output_count, one_if}
 
 -- each item passes, and some item does
 abbrev pub each_passes : {X : Type 0} → (X → Bool) → List X → Bool
@@ -42,7 +42,7 @@ abbrev pub has_ways : (ℕ → ℕ) → ℕ → Bool
 has_ways count most = (count 0 == one_if (nat_lt 0 most)) && (count 1 == one_if (nat_lt 1 most))
 
 abbrev pub has_edges : List Edge → ℕ → Node → Bool
-has_edges edges v node = has_ways (λ slot. length (leaving edges v slot)) (slots node.kind) && has_ways (λ operand. length (entering edges v operand)) (operands node.kind)
+has_edges edges v node = has_ways (λ slot. length (fan_out edges v slot)) (slots node.kind) && has_ways (λ operand. length (fan_in edges v operand)) (operands node.kind)
 
 -- an output's port is that of one, and a gate's is 0
 abbrev pub has_port : ℕ → Node → Bool
@@ -66,5 +66,5 @@ is_network nodes edges =
     && ((each_passes (edge_passes (length nodes)) edges && each_pair_passes is_before edges)
     && (each_numbered_passes (has_edges edges) 0 nodes
     && (each_pair_passes are_apart nodes
-    && (each_passes (has_port (output_count (record { nodes = nodes; edges = edges }))) nodes
-    && has_outputs nodes (output_count (record { nodes = nodes; edges = edges }))))))
+    && (each_passes (has_port (output_count (network_of nodes edges))) nodes
+    && has_outputs nodes (output_count (network_of nodes edges))))))

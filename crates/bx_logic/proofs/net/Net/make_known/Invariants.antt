@@ -1,6 +1,6 @@
 use Rattle.bx_logic.specs.Known.{IsRight, KeepsKnown}
 use Rattle.bx_logic.proofs.Ways.{IsAwaited, IsWay, way_cost}
-use Rattle.bx_logic.proofs.net.Net.settle.Given as goal
+use Rattle.bx_logic.proofs.net.Net.make_known.Given as goal
 
 abbrev pub invariant-loop-frame : goal.invariant-loop-frame
 invariant-loop-frame l = record {

@@ -14,7 +14,6 @@ use Rattle.bx_logic.specs.Lists.{AreDistinct}
 use Rattle.bx_logic.proofs.Members.{Member, Member-filter, Member-filter_cases, AllByRecursion-from_member, member_of_AllByRecursion}
 use Rattle.bx_logic.proofs.Ordered.{Ascends, Ascends-filter, Ascends-range, Member-range, Member-range_bounds}
 use Rattle.bx_network.proofs.Lists.{got-replicate, length-got-replicate}
-use Rattle.bx_bounds.specs.declared.rows.TheConstants.{MOST_NODES}
 use Rattle.bx_bounds.specs.Rows.{HasBit, AreRowsOf}
 
 -- ---- bits
@@ -59,7 +58,7 @@ rows-none R none = record {
 }
 
 -- bits that are added to a row
-pub rows-more : (R S : ℕ → ℕ → Type 0) (More : ℕ → Type 0) (rows : List ℕ) (u bits : ℕ) → u < MOST_NODES → ((t : ℕ) → t < MOST_NODES → HasBit bits t ↔ More t) →
+pub rows-more : (R S : ℕ → ℕ → Type 0) (More : ℕ → Type 0) (rows : List ℕ) (u bits : ℕ) → u < 128 → ((t : ℕ) → t < 128 → HasBit bits t ↔ More t) →
     ((v t : ℕ) → S v t ↔ (R v t ⊎ ((v ≡ u) × More t))) → AreRowsOf R rows → AreRowsOf S (set rows u (bit_or (get_or rows u 0) bits))
 rows-more R S More rows u bits inside says step are = record {
   all = length-set rows u _ ∙ are.all;
@@ -69,7 +68,7 @@ rows-more R S More rows u bits inside says step are = record {
     now : List ℕ
     now = set rows u (bit_or (get_or rows u 0) bits)
 
-    each : (v t : ℕ) → v < MOST_NODES → t < MOST_NODES → (v ≡ u) ⊎ (v ≢ u) → HasBit (get_or (set rows u (bit_or (get_or rows u 0) bits)) v 0) t ↔ S v t
+    each : (v t : ℕ) → v < 128 → t < 128 → (v ≡ u) ⊎ (v ≢ u) → HasBit (get_or (set rows u (bit_or (get_or rows u 0) bits)) v 0) t ↔ S v t
     each v t low short (inl here) =
         let size = are.all in
         let written : get_or (set rows u (bit_or (get_or rows u 0) bits)) v 0 ≡ bit_or (get_or rows u 0) bits =
@@ -148,7 +147,7 @@ length-ones w n short =
 
 -- ---- one bit
 
-pub shifted-one : (v : ℕ) → v < MOST_NODES → 1 * 2 ^ v % 340282366920938463463374607431768211456 ≡ 2 ^ v
+pub shifted-one : (v : ℕ) → v < 128 → 1 * 2 ^ v % 340282366920938463463374607431768211456 ≡ 2 ^ v
 shifted-one v low =
     let one : 1 * 2 ^ v ≡ 2 ^ v = omega arith in
     let less : 2 ^ v < 340282366920938463463374607431768211456 = pow-lt low in

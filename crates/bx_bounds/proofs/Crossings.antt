@@ -8,7 +8,6 @@ use Rattle.bx_network.specs.Networks.{Network, IsNetwork}
 use Rattle.bx_network.proofs.Networks.{kind-at, operands-few, operand-within, goes-forward}
 use Rattle.bx_network.proofs.Placed.{in-placed}
 use Rattle.bx_layout.proofs.PinLists.{distinct-append}
-use Rattle.bx_bounds.specs.declared.rows.TheConstants.{MOST_NODES}
 use Rattle.bx_bounds.specs.Ancestors.{IsAncestor, IsAtOrAbove}
 use Rattle.bx_bounds.specs.Numbers.{IsCount}
 use Rattle.bx_bounds.specs.Refutes.{PassesBelow}
@@ -30,15 +29,15 @@ distinct-codes operand (x ∷ xs) d = (
   distinct-codes operand xs d.1,
 )
 
-module _ (N : Network) (net : IsNetwork N) (few : length N.nodes ≤ MOST_NODES) (below first second : List ℕ) (passing : ArePassing N.edges below first second)
-    (u v : ℕ) (one : u < MOST_NODES) (two : v < MOST_NODES) where
+module _ (N : Network) (net : IsNetwork N) (few : length N.nodes ≤ 128) (below first second : List ℕ) (passing : ArePassing N.edges below first second)
+    (u v : ℕ) (one : u < 128) (two : v < 128) where
   -- a bit stands for an edge
   record IsPassing (operand t e : ℕ) : Type 0 where
     passes : PassesBelow N u v e
     enters : passes.edge.target ≡ t
     by : passes.edge.operand ≡ operand
 
-  bits-say : (operand : ℕ) (entered : List ℕ) → AreRowsOf (EntersFromAbove N.edges operand) entered → (t : ℕ) → t < MOST_NODES → HasBit (passing_bits below entered u v) t → (e : ℕ) × IsPassing operand t e
+  bits-say : (operand : ℕ) (entered : List ℕ) → AreRowsOf (EntersFromAbove N.edges operand) entered → (t : ℕ) → t < 128 → HasBit (passing_bits below entered u v) t → (e : ℕ) × IsPassing operand t e
   bits-say operand entered rows t low has =
       let (up, down) = (bit-and (bit_or (get_or entered u 0) (get_or entered v 0)) (bit_and (get_or below u 0) (get_or below v 0)) t).0 has in
       let (below_one, below_two) = (bit-and (get_or below u 0) (get_or below v 0) t).0 down in

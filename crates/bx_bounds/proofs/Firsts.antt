@@ -120,47 +120,35 @@ first-last Holds (Some c) below first = first-then Holds 3 c below first
 
 -- ---- one order
 
-same-kind : (c d : CountProof) → kind_place c ≡ kind_place d → (c ≡ d) ⊎ (HasLesserNumbers c d ⊎ HasLesserNumbers d c)
-same-kind (Late u) (Late v) e = elim (cases_order u v) [
-  | inl same ↦ inl (ap Late same)
+-- of two pairs of numbers, which are the same or the one lesser
+two-numbers : (a b x y : ℕ) → ((a ≡ x) × (b ≡ y)) ⊎ (((a < x) ⊎ ((a ≡ x) × (b < y))) ⊎ ((x < a) ⊎ ((x ≡ a) × (y < b))))
+two-numbers a b x y = elim (cases_order a x) [
   | inr (inl less) ↦ inr (inl (inl less))
   | inr (inr less) ↦ inr (inr (inl less))
+  | inl first ↦ elim (cases_order b y) [
+    | inl second ↦ inl (first, second)
+    | inr (inl less) ↦ inr (inl (inr (first, less)))
+    | inr (inr less) ↦ inr (inr (inr (sym first, less)))
+  ]
 ]
+
+same-kind : (c d : CountProof) → kind_place c ≡ kind_place d → (c ≡ d) ⊎ (HasLesserNumbers c d ⊎ HasLesserNumbers d c)
+same-kind (Late u) (Late v) e = elim (two-numbers u 0 v 0) [ inl same ↦ inl (ap Late same.0) | inr other ↦ inr other ]
 same-kind (Late u) (Crowd a b) e = cc
 same-kind (Late u) (Cut a) e = cc
 same-kind (Late u) (Pair a b) e = cc
 same-kind (Crowd a b) (Late v) e = cc
-same-kind (Crowd a b) (Crowd x y) e = elim (cases_order a x) [
-  | inr (inl less) ↦ inr (inl (inl less))
-  | inr (inr less) ↦ inr (inr (inl less))
-  | inl first ↦ elim (cases_order b y) [
-    | inl second ↦ inl (ap₂ Crowd first second)
-    | inr (inl less) ↦ inr (inl (inr (first, less)))
-    | inr (inr less) ↦ inr (inr (inr (sym first, less)))
-  ]
-]
+same-kind (Crowd a b) (Crowd x y) e = elim (two-numbers a b x y) [ inl same ↦ inl (ap₂ Crowd same.0 same.1) | inr other ↦ inr other ]
 same-kind (Crowd a b) (Cut x) e = cc
 same-kind (Crowd a b) (Pair x y) e = cc
 same-kind (Cut a) (Late v) e = cc
 same-kind (Cut a) (Crowd x y) e = cc
-same-kind (Cut a) (Cut x) e = elim (cases_order a x) [
-  | inl same ↦ inl (ap Cut same)
-  | inr (inl less) ↦ inr (inl (inl less))
-  | inr (inr less) ↦ inr (inr (inl less))
-]
+same-kind (Cut a) (Cut x) e = elim (two-numbers a 0 x 0) [ inl same ↦ inl (ap Cut same.0) | inr other ↦ inr other ]
 same-kind (Cut a) (Pair x y) e = cc
 same-kind (Pair u v) (Late x) e = cc
 same-kind (Pair u v) (Crowd x y) e = cc
 same-kind (Pair u v) (Cut x) e = cc
-same-kind (Pair u v) (Pair x y) e = elim (cases_order u x) [
-  | inr (inl less) ↦ inr (inl (inl less))
-  | inr (inr less) ↦ inr (inr (inl less))
-  | inl first ↦ elim (cases_order v y) [
-    | inl second ↦ inl (ap₂ Pair first second)
-    | inr (inl less) ↦ inr (inl (inr (first, less)))
-    | inr (inr less) ↦ inr (inr (inr (sym first, less)))
-  ]
-]
+same-kind (Pair u v) (Pair x y) e = elim (two-numbers u v x y) [ inl same ↦ inl (ap₂ Pair same.0 same.1) | inr other ↦ inr other ]
 
 pub one-precedes : (c d : CountProof) → (c ≡ d) ⊎ (Precedes c d ⊎ Precedes d c)
 one-precedes c d = elim (cases_order (kind_place c) (kind_place d)) [

@@ -8,3 +8,5 @@ pub mod Chains
 pub mod BitRows
 pub mod RowSteps
 pub mod Crossings
+pub mod Decided
+pub mod Window

@@ -24,7 +24,8 @@ use Rattle.bx_layout.proofs.Walks.{edge-down, room-above, room-below, in-window,
 use Rattle.bx_bounds.specs.Numbers.{IsCount}
 use Rattle.bx_bounds.specs.Ancestors.{IsAncestor, IsAtOrAbove}
 use Rattle.bx_bounds.specs.Windows.{IsEarliestFrom, IsLatestTo}
-use Rattle.bx_bounds.specs.NoLayout.{HasNoLayout}
+use Rattle.bx_layout.specs.Permits.{PermitTest}
+use Rattle.bx_layout.specs.Legal.{LacksLayout}
 use Rattle.bx_bounds.specs.Refutes.{borders_between, IsLate, IsKeptTo, IsCutAt, PassesBelow, Refutes}
 use Rattle.bx_bounds.proofs.Pigeons.{few-by}
 use Rattle.bx_bounds.proofs.Gaps.{gap, length-gap, TakesBorder, way-crosses}
@@ -169,7 +170,7 @@ refuted-none N permit L (Crowd first last) network (ordered, within, (c, count, 
 refuted-none N permit L (Cut row) network (within, (c, count, more)) legal = let few = cut-few N permit L network legal row c count in omega arith
 refuted-none N permit L (Pair u v) network (ordered, within, (c, count, more)) legal = let few = pair-few N permit L network legal u v c count in omega arith
 
-pub no-layout : (N : Network) (ratio : Ratio) (proof : CountProof) → IsNetwork N → Refutes N ratio proof → HasNoLayout N ratio
+pub no-layout : (N : Network) (ratio : Ratio) (proof : CountProof) → IsNetwork N → Refutes N ratio proof → (permit : PermitTest) → LacksLayout N permit ratio
 no-layout N ratio proof network refutes permit L same legal =
     refuted-none N permit L proof network (subst (λ (r : Ratio). Refutes N r proof) (sym same) refutes) legal
 

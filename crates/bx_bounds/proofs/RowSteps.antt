@@ -3,16 +3,15 @@ use Rattle.std.proofs.Common.{◌≡◌, ◌≢◌, ℕ, ◌+◌, ◌<◌, ◌�
 use Rattle.bx_network.specs.declared.node.Edge.{Edge}
 use Rattle.bx_network.specs.Networks.{Network, IsNetwork}
 use Rattle.bx_network.proofs.Networks.{goes-forward}
-use Rattle.bx_bounds.specs.declared.rows.TheConstants.{MOST_NODES}
 use Rattle.bx_bounds.specs.Rows.{HasBit, AreRowsOf}
 use Rattle.bx_bounds.proofs.BitRows.{bit-or, rows-map, rows-more}
 use Rattle.bx_bounds.proofs.Chains.{IsBelowBy, below-more, EntersBy, enters-more, EntersEarly, early-more, early-stay}
 
-module _ (N : Network) (net : IsNetwork N) (few : length N.nodes ≤ MOST_NODES) (k : ℕ) (e : Edge) (is : slice_get N.edges k ≡ Some e) where
-  pub target-low : e.target < MOST_NODES
+module _ (N : Network) (net : IsNetwork N) (few : length N.nodes ≤ 128) (k : ℕ) (e : Edge) (is : slice_get N.edges k ≡ Some e) where
+  pub target-low : e.target < 128
   target-low = let low = (goes-forward N net k e is).within in omega arith
 
-  pub source-low : e.source < MOST_NODES
+  pub source-low : e.source < 128
   source-low = let low = (goes-forward N net k e is).within in let forward = (goes-forward N net k e is).forward in omega arith
 
   pub below-step : (rows : List ℕ) (own : ℕ) → ((t : ℕ) → HasBit own t ↔ (t ≡ e.target)) → AreRowsOf (IsBelowBy N.edges (k + 1)) rows →
@@ -21,7 +20,7 @@ module _ (N : Network) (net : IsNetwork N) (few : length N.nodes ≤ MOST_NODES)
       rows-more (IsBelowBy N.edges (k + 1)) (IsBelowBy N.edges k) (λ t. (t ≡ e.target) ⊎ IsBelowBy N.edges (k + 1) e.target t) rows e.source (bit_or own (get_or rows e.target 0))
       source-low says (below-more N net k e is) are
     where
-      says : (t : ℕ) → t < MOST_NODES → HasBit (bit_or own (get_or rows e.target 0)) t ↔ ((t ≡ e.target) ⊎ IsBelowBy N.edges (k + 1) e.target t)
+      says : (t : ℕ) → t < 128 → HasBit (bit_or own (get_or rows e.target 0)) t ↔ ((t ≡ e.target) ⊎ IsBelowBy N.edges (k + 1) e.target t)
       says t low =
           let both = bit-or own (get_or rows e.target 0) t in
           let here = are.each e.target t target-low low in (

@@ -1,5 +1,5 @@
--- Ancestors of a node: those from which a path of at least one edge leads to it. So no node is its own
--- ancestor. A node is a descendant of its ancestors.
+-- Ancestors of a node: those from which a path of at least one edge leads to it. So no node is its
+-- own ancestor. A node is a descendant of its ancestors.
 use Rattle.std.specs.Prelude.{◌≡◌, ℕ, suc, ◌⊎◌, List}
 use Rattle.bx_network.specs.declared.node.Edge.{Edge}
 use Rattle.bx_network.specs.Paths.{IsPath}

@@ -5,4 +5,3 @@ pub mod Borders
 pub mod Refutes
 pub mod Precedes
 pub mod Rows
-pub mod NoLayout

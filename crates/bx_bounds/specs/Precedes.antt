@@ -25,10 +25,13 @@ second_number (Pair u v) = v
 
 -- of two that have one kind, the one with the lesser first number, or else with the lesser second
 abbrev pub HasLesserNumbers : CountProof → CountProof → Type 0
-HasLesserNumbers c d = (first_number c < first_number d) ⊎ ((first_number c ≡ first_number d) × (second_number c < second_number d))
+HasLesserNumbers c d =
+    (first_number c < first_number d) ⊎
+    ((first_number c ≡ first_number d) × (second_number c < second_number d))
 
 abbrev pub Precedes : CountProof → CountProof → Type 0
-Precedes c d = (kind_place c < kind_place d) ⊎ ((kind_place c ≡ kind_place d) × HasLesserNumbers c d)
+Precedes c d =
+    (kind_place c < kind_place d) ⊎ ((kind_place c ≡ kind_place d) × HasLesserNumbers c d)
 
 -- the first count proof of this sort, or none where there is no such proof
 abbrev pub IsFirst : (CountProof → Type 0) → Option CountProof → Type 0

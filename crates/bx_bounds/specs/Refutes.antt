@@ -1,5 +1,5 @@
--- The inequality of each count proof: when it refutes a ratio. By lengths of longest paths and by ancestors
--- alone.
+-- The inequality of each count proof: when it refutes a ratio. By lengths of longest paths and by
+-- ancestors alone.
 use Rattle.std.specs.Prelude.{◌≡◌, ℕ, ◌+◌, ◌-◌, ◌*◌, ◌<◌, ◌≤◌, ◌⊎◌, length, slice_get, Some}
 use Rattle.bx_grid.specs.declared.ratio.Ratio.{Ratio}
 use Rattle.bx_grid.specs.declared.count.CountProof.{CountProof}
@@ -25,14 +25,16 @@ pub record IsKeptTo (N : Network) (height first last v : ℕ) : Type 0 where
   pub earliest : IsEarliestFrom N v first height
   pub latest : IsLatestTo N v last height
 
--- Cut: the source of edge e has its latest row at this row or above it, and the target its earliest below it.
+-- Cut: the source of edge e has its latest row at this row or above it, and the target its earliest
+-- below it.
 pub record IsCutAt (N : Network) (height row e : ℕ) : Type 0 where
   pub edge : Edge
   pub is : slice_get N.edges e ≡ Some edge
   pub above : IsLatestTo N edge.source row height
   pub below : IsEarliestFrom N edge.target (row + 1) height
 
--- Pair: edge e begins at u, at v or at an ancestor of one of them, and ends at a descendant of both.
+-- Pair: edge e begins at u, at v or at an ancestor of one of them, and ends at a descendant of
+-- both.
 pub record PassesBelow (N : Network) (u v e : ℕ) : Type 0 where
   pub edge : Edge
   pub is : slice_get N.edges e ≡ Some edge
@@ -47,6 +49,9 @@ borders_between r = 2 * r.w - 1
 -- a proof whose numbers are out of range refutes nothing
 abbrev pub Refutes : Network → Ratio → CountProof → Type 0
 Refutes N r (Late v) = IsLate N r.h v
-Refutes N r (Crowd first last) = (first ≤ last) × (last < r.h) × AreMoreThan (r.w * (last - first + 1)) (IsKeptTo N r.h first last)
+Refutes N r (Crowd first last) =
+    (first ≤ last) × (last < r.h) ×
+    AreMoreThan (r.w * (last - first + 1)) (IsKeptTo N r.h first last)
 Refutes N r (Cut row) = (row + 1 < r.h) × AreMoreThan (borders_between r) (IsCutAt N r.h row)
-Refutes N r (Pair u v) = (u ≤ v) × (v < length N.nodes) × AreMoreThan (borders_between r) (PassesBelow N u v)
+Refutes N r (Pair u v) =
+    (u ≤ v) × (v < length N.nodes) × AreMoreThan (borders_between r) (PassesBelow N u v)

@@ -9,7 +9,8 @@ use crate::windows::{is_earliest_from, is_latest_to};
 use bx_grid::{CountProof, Ratio};
 use bx_network::MappedNet;
 
-// Whether there are such rows, and more nodes are kept to them than they have tiles. It looks at each node.
+// Whether there are such rows, and more nodes are kept to them than they have tiles. It looks at
+// each node.
 pub fn is_crowd(net: &MappedNet, ratio: Ratio, first: u32, last: u32) -> bool
     ensures { IsTrue result ↔ Refutes net.now ratio (Crowd first last) }
 {

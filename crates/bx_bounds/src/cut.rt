@@ -10,8 +10,8 @@ use crate::windows::{is_earliest_from, is_latest_to};
 use bx_grid::{CountProof, Ratio};
 use bx_network::MappedNet;
 
-// Whether there is a row below this one, and more edges cross to it than there are borders. It looks at each
-// edge.
+// Whether there is a row below this one, and more edges cross to it than there are borders. It
+// looks at each edge.
 pub fn is_cut(net: &MappedNet, ratio: Ratio, row: u32) -> bool
     ensures { IsTrue result ↔ Refutes net.now ratio (Cut row) }
 {

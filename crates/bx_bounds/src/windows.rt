@@ -1,5 +1,5 @@
-//! Bounds on the earliest and the latest row of a node. Both rows may be negative, so they are compared by
-//! sums.
+//! Bounds on the earliest and the latest row of a node. Both rows may be negative, so they are
+//! compared by sums.
 ghost use Rattle.std.specs.Prelude.{◌↔◌, ◌<◌, IsTrue, length};
 ghost use Rattle.bx_network.specs.Windows.{EarliestFrom, LatestTo};
 ghost use Rattle.bx_bounds.specs.Windows.{IsEarliestFrom, IsLatestTo};

@@ -18,7 +18,7 @@ use Rattle.bx_library.proofs.DotOrder.{before_goes_on, not_before_itself}
 use Rattle.bx_library.proofs.DotSets.{one_ascending, no_dot}
 use Rattle.bx_dots.specs.declared.fault.CutFault.{CutFault}
 use Rattle.bx_dots.specs.declared.fault.CutFault.TheVariants.{StrayDot, StrangeTile, NoMemory}
-use Rattle.bx_dots.specs.Places.{moved, LiesIn}
+use Rattle.bx_dots.specs.Places.{moved_dot, LiesIn}
 use Rattle.bx_dots.specs.GridDots.{dots_in, AreOffered, AreDotsOf}
 use Rattle.bx_dots.specs.Cuts.{group_of_row, AreOwn, MayStand, ReadsAs, NoneStray, IsCut, IsFirstStray, IsFirstStrange, CutsTo}
 use Rattle.bx_dots.specs.Reading.{IsStrangeFault}
@@ -154,21 +154,21 @@ inside_form lib (Some form) own kept h = All-contains (IsInside lib.width lib.he
 owns_of_dots : (lib : Tiles) (g : FormGrid) (dots : List Dot) → IsLibrary lib → AreDotsOf lib g dots → (t : ℕ) → IsTile g.ratio t → AreOwn lib g.ratio dots t (dots_in lib (form_at g t))
 owns_of_dots lib g dots kept are t inside own = (to, from)
   where
-    to : Contains (dots_in lib (form_at g t)) own → (own.n < lib.width) × (own.m < lib.height) × Contains dots (moved lib g.ratio t own)
+    to : Contains (dots_in lib (form_at g t)) own → (own.n < lib.width) × (own.m < lib.height) × Contains dots (moved_dot lib g.ratio t own)
     to h =
         let within : IsInside lib.width lib.height own = inside_form lib (form_at g t) own kept h in (
           within.n,
           within.m,
-          (are (moved lib g.ratio t own)).1 (record { tile = t; inside = inside; own = own; has = h; is = refl }),
+          (are (moved_dot lib g.ratio t own)).1 (record { tile = t; inside = inside; own = own; has = h; is = refl }),
         )
 
-    from : (own.n < lib.width) × (own.m < lib.height) × Contains dots (moved lib g.ratio t own) → Contains (dots_in lib (form_at g t)) own
+    from : (own.n < lib.width) × (own.m < lib.height) × Contains dots (moved_dot lib g.ratio t own) → Contains (dots_in lib (form_at g t)) own
     from (n, m, h) =
-        let of = (are (moved lib g.ratio t own)).0 h in
+        let of = (are (moved_dot lib g.ratio t own)).0 h in
         let within : IsInside lib.width lib.height of.own = inside_form lib (form_at g of.tile) of.own kept of.has in
-        let there : LiesIn lib g.ratio of.tile (moved lib g.ratio t own) = subst (LiesIn lib g.ratio of.tile) (sym of.is) (moved_lies lib g.ratio of.tile of.own within.n within.m) in
-        let same : of.tile ≡ t = one_tile lib g.ratio of.tile t (moved lib g.ratio t own) there (moved_lies lib g.ratio t own n m) in
-        let one : of.own ≡ own = sym (moved_one lib g.ratio t own of.own (of.is ∙ ap (λ u. moved lib g.ratio u of.own) same)) in
+        let there : LiesIn lib g.ratio of.tile (moved_dot lib g.ratio t own) = subst (LiesIn lib g.ratio of.tile) (sym of.is) (moved_lies lib g.ratio of.tile of.own within.n within.m) in
+        let same : of.tile ≡ t = one_tile lib g.ratio of.tile t (moved_dot lib g.ratio t own) there (moved_lies lib g.ratio t own n m) in
+        let one : of.own ≡ own = sym (moved_one lib g.ratio t own of.own (of.is ∙ ap (λ u. moved_dot lib g.ratio u of.own) same)) in
         subst (Contains (dots_in lib (form_at g t))) one (subst (λ u. Contains (dots_in lib (form_at g u)) of.own) same of.has)
 
 none_stray : (lib : Tiles) (g : FormGrid) (dots : List Dot) → IsLibrary lib → AreDotsOf lib g dots → NoneStray lib g.ratio dots

@@ -7,7 +7,7 @@ use Rattle.bx_grid.specs.declared.ratio.Ratio.{Ratio}
 use Rattle.bx_grid.specs.Tiles.{IsGrid, IsTile, x_of, y_of}
 use Rattle.bx_library.specs.declared.dot.Dot.{Dot}
 use Rattle.bx_library.specs.Tiles.{Tiles, IsLibrary}
-use Rattle.bx_dots.specs.Places.{shift, left, top, moved, LiesIn, IsStray}
+use Rattle.bx_dots.specs.Places.{shift, left, top, moved_dot, LiesIn, IsStray}
 
 pub record IsSized (lib : Tiles) : Type 0 where
   pub wide : 0 < lib.width
@@ -121,7 +121,7 @@ in_tile lib r dot size row low column =
 
 -- ---- dots that are moved
 
-pub moved_lies : (lib : Tiles) (r : Ratio) (t : ℕ) (own : Dot) → own.n < lib.width → own.m < lib.height → LiesIn lib r t (moved lib r t own)
+pub moved_lies : (lib : Tiles) (r : Ratio) (t : ℕ) (own : Dot) → own.n < lib.width → own.m < lib.height → LiesIn lib r t (moved_dot lib r t own)
 moved_lies lib r t own n m = record {
   from_left = low (left lib r t) own.n;
   to_right = high (left lib r t) own.n lib.width n;
@@ -144,7 +144,7 @@ same_dot a b m l n = ap (λ x. dot x a.l a.n) m ∙ ap (λ x. dot b.m x a.n) l �
 cancel : (a b c : ℕ) → a + b ≡ a + c → b ≡ c
 cancel a b c e = omega arith
 
-pub moved_one : (lib : Tiles) (r : Ratio) (t : ℕ) (a b : Dot) → moved lib r t a ≡ moved lib r t b → a ≡ b
+pub moved_one : (lib : Tiles) (r : Ratio) (t : ℕ) (a b : Dot) → moved_dot lib r t a ≡ moved_dot lib r t b → a ≡ b
 moved_one lib r t a b e =
     same_dot a b
     (cancel (top lib r t) a.m b.m (ap (λ (d : Dot). d.m) e))

@@ -5,3 +5,4 @@ pub mod Between
 pub mod Owns
 pub mod Listing
 pub mod Near
+pub mod Decided

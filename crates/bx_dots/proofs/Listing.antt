@@ -21,8 +21,8 @@ use Rattle.bx_library.specs.Dots.{IsBefore, IsAscending, dot_cmp}
 use Rattle.bx_library.specs.Tiles.{Tiles, IsLibrary, IsInside, form_dots}
 use Rattle.bx_library.proofs.DotOrder.{not_before_itself, equal_from_cmp, cmp_from_equal}
 use Rattle.bx_library.proofs.DotSets.{dots_total, no_dot, ascending_from_sorted}
-use Rattle.bx_dots.specs.Places.{left, top, moved_by, moved, LiesIn}
-use Rattle.bx_dots.specs.GridDots.{dots_in, IsDotOf, AreDotsOf, tile_dots, listed_to, listed}
+use Rattle.bx_dots.specs.Places.{left, top, moved_by, moved_dot, LiesIn}
+use Rattle.bx_dots.specs.GridDots.{dots_in, IsDotOf, AreDotsOf, tile_dots, dots_below, grid_dots}
 use Rattle.bx_dots.proofs.Geometry.{one_tile, moved_lies, moved_one}
 use Rattle.bx_dots.proofs.Cutting.{inside_form}
 
@@ -34,26 +34,26 @@ range_more n =
     ∙ map-range_with_len_more (λ (k : ℕ). k) 0 n n (omega arith)
     ∙ ap (λ (ks : List ℕ). ks ++ n ∷ []) (map-id (range_with_len 0 n))
 
-pub listed_more : (lib : Tiles) (g : FormGrid) (n : ℕ) → listed_to lib g (n + 1) ≡ listed_to lib g n ++ tile_dots lib g n
+pub listed_more : (lib : Tiles) (g : FormGrid) (n : ℕ) → dots_below lib g (n + 1) ≡ dots_below lib g n ++ tile_dots lib g n
 listed_more lib g n = ap (flat_map (tile_dots lib g)) (range_more n) ∙ sym (flat_map_more (tile_dots lib g) [] (range_with_len 0 n) n)
 
-pub listed_form : (lib : Tiles) (g : FormGrid) (n form : ℕ) (xs ys : List Dot) → form_at g n ≡ Some form → xs ≡ listed_to lib g n → ys ≡ xs ++ map (moved lib g.ratio n) (form_dots lib form) → ys ≡ listed_to lib g (n + 1)
+pub listed_form : (lib : Tiles) (g : FormGrid) (n form : ℕ) (xs ys : List Dot) → form_at g n ≡ Some form → xs ≡ dots_below lib g n → ys ≡ xs ++ map (moved_dot lib g.ratio n) (form_dots lib form) → ys ≡ dots_below lib g (n + 1)
 listed_form lib g n form xs ys at before added =
-    let here : tile_dots lib g n ≡ map (moved lib g.ratio n) (form_dots lib form) = ap (λ o. map (moved lib g.ratio n) (dots_in lib o)) at in
-    added ∙ ap (λ (zs : List Dot). zs ++ map (moved lib g.ratio n) (form_dots lib form)) before ∙ ap (λ (zs : List Dot). listed_to lib g n ++ zs) (sym here) ∙ sym (listed_more lib g n)
+    let here : tile_dots lib g n ≡ map (moved_dot lib g.ratio n) (form_dots lib form) = ap (λ o. map (moved_dot lib g.ratio n) (dots_in lib o)) at in
+    added ∙ ap (λ (zs : List Dot). zs ++ map (moved_dot lib g.ratio n) (form_dots lib form)) before ∙ ap (λ (zs : List Dot). dots_below lib g n ++ zs) (sym here) ∙ sym (listed_more lib g n)
 
 -- the same by the numbers that are at hand
-pub pushed_form : (lib : Tiles) (g : FormGrid) (n form : ℕ) (xs ys owns : List Dot) (r : Ratio) (a b : ℕ) → r ≡ g.ratio → a ≡ left lib r n → b ≡ top lib r n → owns ≡ form_dots lib form → form_at g n ≡ Some form → xs ≡ listed_to lib g n
-    → ys ≡ xs ++ map (moved_by a b) owns → ys ≡ listed_to lib g (n + 1)
+pub pushed_form : (lib : Tiles) (g : FormGrid) (n form : ℕ) (xs ys owns : List Dot) (r : Ratio) (a b : ℕ) → r ≡ g.ratio → a ≡ left lib r n → b ≡ top lib r n → owns ≡ form_dots lib form → form_at g n ≡ Some form → xs ≡ dots_below lib g n
+    → ys ≡ xs ++ map (moved_by a b) owns → ys ≡ dots_below lib g (n + 1)
 pushed_form lib g n form xs ys owns r a b ratio from_left from_top dots at before added =
     listed_form lib g n form xs ys at before
     (added ∙ ap (λ k. xs ++ map (moved_by k b) owns) (from_left ∙ ap (λ q. left lib q n) ratio) ∙ ap (λ k. xs ++ map (moved_by (left lib g.ratio n) k) owns) (from_top ∙ ap (λ q. top lib q n) ratio)
-    ∙ ap (λ (zs : List Dot). xs ++ map (moved lib g.ratio n) zs) dots)
+    ∙ ap (λ (zs : List Dot). xs ++ map (moved_dot lib g.ratio n) zs) dots)
 
-pub listed_empty : (lib : Tiles) (g : FormGrid) (n : ℕ) (xs : List Dot) → form_at g n ≡ None → xs ≡ listed_to lib g n → xs ≡ listed_to lib g (n + 1)
+pub listed_empty : (lib : Tiles) (g : FormGrid) (n : ℕ) (xs : List Dot) → form_at g n ≡ None → xs ≡ dots_below lib g n → xs ≡ dots_below lib g (n + 1)
 listed_empty lib g n xs at before =
-    let here : tile_dots lib g n ≡ [] = ap (λ o. map (moved lib g.ratio n) (dots_in lib o)) at in
-    before ∙ sym (append-nil (listed_to lib g n)) ∙ ap (λ (zs : List Dot). listed_to lib g n ++ zs) (sym here) ∙ sym (listed_more lib g n)
+    let here : tile_dots lib g n ≡ [] = ap (λ o. map (moved_dot lib g.ratio n) (dots_in lib o)) at in
+    before ∙ sym (append-nil (dots_below lib g n)) ∙ ap (λ (zs : List Dot). dots_below lib g n ++ zs) (sym here) ∙ sym (listed_more lib g n)
 
 -- ---- none is there twice
 
@@ -78,13 +78,13 @@ form_ascends lib (Some form) kept = kept.ascending form
 
 one_tile_differs : (lib : Tiles) (g : FormGrid) (t : ℕ) → IsLibrary lib → Ascends {X = Dot} ◌≢◌ (tile_dots lib g t)
 one_tile_differs lib g t kept =
-    Ascends-map IsBefore ◌≢◌ (moved lib g.ratio t) (dots_in lib (form_at g t))
+    Ascends-map IsBefore ◌≢◌ (moved_dot lib g.ratio t) (dots_in lib (form_at g t))
     (λ a b m n before e. before_differs a b before (moved_one lib g.ratio t a b e))
     (ascends_from_pairs IsBefore (dots_in lib (form_at g t)) (form_ascends lib (form_at g t) kept))
 
 member_lies : (lib : Tiles) (g : FormGrid) (t : ℕ) (dot : Dot) → IsLibrary lib → Member dot (tile_dots lib g t) → LiesIn lib g.ratio t dot
 member_lies lib g t dot kept m =
-    let (own, has, e) = Member-map_cases (moved lib g.ratio t) dot (dots_in lib (form_at g t)) m in
+    let (own, has, e) = Member-map_cases (moved_dot lib g.ratio t) dot (dots_in lib (form_at g t)) m in
     let within : IsInside lib.width lib.height own = inside_form lib (form_at g t) own kept (Contains-from_member own (dots_in lib (form_at g t)) has) in
     subst (LiesIn lib g.ratio t) e (moved_lies lib g.ratio t own within.n within.m)
 
@@ -93,9 +93,9 @@ two_tiles_differ lib g t u kept less a b m n e =
     let same : t ≡ u = one_tile lib g.ratio t u b (subst (LiesIn lib g.ratio t) e (member_lies lib g t a kept m)) (member_lies lib g u b kept n) in
     omega arith
 
-listed_differ : (lib : Tiles) (g : FormGrid) (n : ℕ) → IsLibrary lib → AllPairs {X = Dot} ◌≢◌ (listed_to lib g n)
+listed_differ : (lib : Tiles) (g : FormGrid) (n : ℕ) → IsLibrary lib → AllPairs {X = Dot} ◌≢◌ (dots_below lib g n)
 listed_differ lib g n kept =
-    AllPairs-from_ascends ◌≢◌ (listed_to lib g n)
+    AllPairs-from_ascends ◌≢◌ (dots_below lib g n)
     (Ascends-flat_map ◌<◌ ◌≢◌ (tile_dots lib g) (range_with_len 0 n)
     (λ t m. one_tile_differs lib g t kept)
     (λ t u m k less a b h l. two_tiles_differ lib g t u kept less a b h l)
@@ -103,13 +103,13 @@ listed_differ lib g n kept =
 
 -- ---- they are the dots of the grid
 
-listed_is : (lib : Tiles) (g : FormGrid) → AreDotsOf lib g (listed lib g)
+listed_is : (lib : Tiles) (g : FormGrid) → AreDotsOf lib g (grid_dots lib g)
 listed_is lib g dot = (to, from)
   where
-    to : Contains (listed lib g) dot → IsDotOf lib g dot
+    to : Contains (grid_dots lib g) dot → IsDotOf lib g dot
     to h =
-        let (t, at, m) = Member-flat_map_cases (tile_dots lib g) dot (range_with_len 0 (tile_count g.ratio)) (Member-from_contains dot (listed lib g) h) in
-        let (own, has, e) = Member-map_cases (moved lib g.ratio t) dot (dots_in lib (form_at g t)) m in
+        let (t, at, m) = Member-flat_map_cases (tile_dots lib g) dot (range_with_len 0 (tile_count g.ratio)) (Member-from_contains dot (grid_dots lib g) h) in
+        let (own, has, e) = Member-map_cases (moved_dot lib g.ratio t) dot (dots_in lib (form_at g t)) m in
         let bounds = Member-range_bounds 0 (tile_count g.ratio) t at in
         record {
           tile = t;
@@ -119,17 +119,17 @@ listed_is lib g dot = (to, from)
           is = sym e;
         }
 
-    from : IsDotOf lib g dot → Contains (listed lib g) dot
+    from : IsDotOf lib g dot → Contains (grid_dots lib g) dot
     from of =
         let inside : of.tile < tile_count g.ratio = of.inside in
-        let m : Member (moved lib g.ratio of.tile of.own) (tile_dots lib g of.tile) =
-        Member-map (moved lib g.ratio of.tile) of.own (dots_in lib (form_at g of.tile)) (Member-from_contains of.own (dots_in lib (form_at g of.tile)) of.has) in
-        Contains-from_member dot (listed lib g)
+        let m : Member (moved_dot lib g.ratio of.tile of.own) (tile_dots lib g of.tile) =
+        Member-map (moved_dot lib g.ratio of.tile) of.own (dots_in lib (form_at g of.tile)) (Member-from_contains of.own (dots_in lib (form_at g of.tile)) of.has) in
+        Contains-from_member dot (grid_dots lib g)
         (Member-flat_map (tile_dots lib g) of.tile dot (range_with_len 0 (tile_count g.ratio))
         (Member-range 0 (tile_count g.ratio) of.tile (omega arith) (omega arith))
         (subst (λ (d : Dot). Member d (tile_dots lib g of.tile)) (sym of.is) m))
 
-pub sorted_is : (lib : Tiles) (g : FormGrid) (xs ys : List Dot) → xs ≡ listed lib g → IsPermutation xs ys → AreDotsOf lib g ys
+pub sorted_is : (lib : Tiles) (g : FormGrid) (xs ys : List Dot) → xs ≡ grid_dots lib g → IsPermutation xs ys → AreDotsOf lib g ys
 sorted_is lib g xs ys same moves dot =
     let are = subst (AreDotsOf lib g) (sym same) (listed_is lib g) dot in (
       (λ h. are.0 (Contains-permutation ys xs dot (IsPermutation-sym xs ys moves) h)),
@@ -151,7 +151,7 @@ adjacent Greater a b e up differ =
     let no : true ≡ false = sym (ap is_lt other) ∙ up in
     absurd (cc)
 
-pub sorted_ascends : (lib : Tiles) (g : FormGrid) (xs ys : List Dot) → (0 < length xs → IsLibrary lib) → xs ≡ listed lib g → IsPermutation xs ys → IsSorted dot_cmp ys → IsAscending ys
+pub sorted_ascends : (lib : Tiles) (g : FormGrid) (xs ys : List Dot) → (0 < length xs → IsLibrary lib) → xs ≡ grid_dots lib g → IsPermutation xs ys → IsSorted dot_cmp ys → IsAscending ys
 sorted_ascends lib g [] ys kept same moves sorted = λ i j d l below.
     let long = length_permutation {X = Dot} [] ys moves in
     absurd (omega (arith, long))

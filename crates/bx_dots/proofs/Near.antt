@@ -10,8 +10,8 @@ use Rattle.bx_grid.specs.Tiles.{IsTile, x_of, y_of, is_odd}
 use Rattle.bx_layout.specs.Grids.{FormGrid, form_at}
 use Rattle.bx_library.specs.declared.dot.Dot.{Dot}
 use Rattle.bx_library.specs.Tiles.{Tiles, IsLibrary, IsInside}
-use Rattle.bx_dots.specs.Places.{shift, moved}
-use Rattle.bx_dots.specs.GridDots.{IsDotOf, IsNear, listed}
+use Rattle.bx_dots.specs.Places.{shift, moved_dot}
+use Rattle.bx_dots.specs.GridDots.{IsDotOf, IsNear, grid_dots}
 use Rattle.bx_dots.proofs.Cutting.{inside_form}
 use Rattle.bx_dots.proofs.Listing.{sorted_is}
 
@@ -33,7 +33,7 @@ some_column : (w h t : ℕ) → t < w * h → 0 < w
 some_column zero h t inside = absurd (omega arith)
 some_column (suc w) h t inside = omega arith
 
-near_tile : (lib : Tiles) (r : Ratio) (t : ℕ) (own : Dot) → IsLibrary lib → IsTile r t → IsInside lib.width lib.height own → IsNear r (moved lib r t own)
+near_tile : (lib : Tiles) (r : Ratio) (t : ℕ) (own : Dot) → IsLibrary lib → IsTile r t → IsInside lib.width lib.height own → IsNear r (moved_dot lib r t own)
 near_tile lib r t own kept inside within =
     let wide = some_column r.w r.h t inside in record {
       column = below_sides (x_of r t) r.w lib.width (shift lib (y_of r t)) own.n (mod_below t r.w wide) kept.width.most (shift_small lib (is_odd (y_of r t)) kept.width.most) within.n;
@@ -45,7 +45,7 @@ pub near_of : (lib : Tiles) (g : FormGrid) (dot : Dot) → IsLibrary lib → IsD
 near_of lib g dot kept of =
     subst (IsNear g.ratio) (sym of.is) (near_tile lib g.ratio of.tile of.own kept of.inside (inside_form lib (form_at g of.tile) of.own kept of.has))
 
-pub sorted_near : (lib : Tiles) (g : FormGrid) (xs ys : List Dot) → (0 < length xs → IsLibrary lib) → xs ≡ listed lib g → IsPermutation xs ys → All (IsNear g.ratio) ys
+pub sorted_near : (lib : Tiles) (g : FormGrid) (xs ys : List Dot) → (0 < length xs → IsLibrary lib) → xs ≡ grid_dots lib g → IsPermutation xs ys → All (IsNear g.ratio) ys
 sorted_near lib g xs ys kept same moves k d below =
     let long = length_permutation xs ys moves in
     let dot = get_or ys k d in

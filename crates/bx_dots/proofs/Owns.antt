@@ -13,7 +13,7 @@ use Rattle.bx_library.specs.declared.group.Group.{Group}
 use Rattle.bx_library.specs.Dots.{IsBefore, IsAscending}
 use Rattle.bx_library.specs.Tiles.{Tiles, IsLibrary, form_dots}
 use Rattle.bx_library.proofs.DotSets.{one_ascending}
-use Rattle.bx_dots.specs.Places.{left, top, moved, moved_by}
+use Rattle.bx_dots.specs.Places.{left, top, moved_dot, moved_by}
 use Rattle.bx_dots.specs.Cuts.{group_of_row, AreOwn, ReadsAs, IsStrange}
 use Rattle.bx_dots.specs.Reading.{moved_back, is_among, IsFormWith}
 use Rattle.bx_dots.proofs.Geometry.{same_dot}
@@ -61,27 +61,27 @@ pub owns_are : (lib : Tiles) (r : Ratio) (t : ℕ) (dots rows : List Dot) (n m w
     → AreOwn lib r dots t (map (moved_back n m) (filter (is_among n w) rows))
 owns_are lib r t dots rows n m w h stands same own = (to, from)
   where
-    found : (dot : Dot) → Member dot (filter (is_among n w) rows) → (moved_back n m dot ≡ own) → (own.n < lib.width) × (own.m < lib.height) × Contains dots (moved lib r t own)
+    found : (dot : Dot) → Member dot (filter (is_among n w) rows) → (moved_back n m dot ≡ own) → (own.n < lib.width) × (own.m < lib.height) × Contains dots (moved_dot lib r t own)
     found dot member e =
         let cases = Member-filter_cases (is_among n w) dot rows member in
         let columns = among n w dot cases.1 in
         let inside = (same dot).0 (Contains-from_member dot rows cases.0) in
-        let place : dot ≡ moved lib r t own =
+        let place : dot ≡ moved_dot lib r t own =
         sym (there n m dot columns.0 inside.1) ∙ ap (moved_by n m) e ∙ ap (λ a. moved_by a m own) stands.left_is ∙ ap (λ b. moved_by (left lib r t) b own) stands.top_is in (
           subst (λ x. own.n < x) stands.width_is (subst (λ (d : Dot). d.n < w) e (less n dot.n w columns.0 columns.1)),
           subst (λ x. own.m < x) stands.height_is (subst (λ (d : Dot). d.m < h) e (less m dot.m h inside.1 inside.2)),
           subst (Contains dots) place inside.0,
         )
 
-    to : Contains (map (moved_back n m) (filter (is_among n w) rows)) own → (own.n < lib.width) × (own.m < lib.height) × Contains dots (moved lib r t own)
+    to : Contains (map (moved_back n m) (filter (is_among n w) rows)) own → (own.n < lib.width) × (own.m < lib.height) × Contains dots (moved_dot lib r t own)
     to h =
         let (dot, member, e) = Member-map_cases (moved_back n m) own (filter (is_among n w) rows) (Member-from_contains own (map (moved_back n m) (filter (is_among n w) rows)) h) in
         found dot member e
 
-    from : (own.n < lib.width) × (own.m < lib.height) × Contains dots (moved lib r t own) → Contains (map (moved_back n m) (filter (is_among n w) rows)) own
+    from : (own.n < lib.width) × (own.m < lib.height) × Contains dots (moved_dot lib r t own) → Contains (map (moved_back n m) (filter (is_among n w) rows)) own
     from (inside_n, inside_m, has) =
         let dot = moved_by n m own in
-        let place : moved lib r t own ≡ dot = sym (ap (λ a. moved_by a m own) stands.left_is ∙ ap (λ b. moved_by (left lib r t) b own) stands.top_is) in
+        let place : moved_dot lib r t own ≡ dot = sym (ap (λ a. moved_by a m own) stands.left_is ∙ ap (λ b. moved_by (left lib r t) b own) stands.top_is) in
         let row : Contains rows dot = (same dot).1 (subst (Contains dots) place has, low m own.m, high m own.m h (subst (λ x. own.m < x) (sym stands.height_is) inside_m)) in
         let test : is_among n w dot ≡ true = is_among-true n w dot (low n own.n) (high n own.n w (subst (λ x. own.n < x) (sym stands.width_is) inside_n)) in
         let member = Member-map (moved_back n m) dot (filter (is_among n w) rows) (Member-filter (is_among n w) dot rows test (Member-from_contains dot rows row)) in

@@ -1,5 +1,6 @@
--- What a set of dots is cut into: the form grid in which each tile has exactly the dots of the set that lie
--- in it, or what is in the way of one. The set is given as a list of which it has the dots.
+-- What a set of dots is cut into: the form grid in which each tile has exactly the dots of the set
+-- that lie in it, or what is in the way of one. The set is given as a list of which it has the
+-- dots.
 use Rattle.std.specs.Prelude.{◌≡◌, ◌==◌, ◌↔◌, ◌⊎◌, ℕ, ◌+◌, ◌<◌, List, length, if◌then◌else◌, Contains, Option, Some, None, Result, Ok, Err}
 use Rattle.bx_grid.specs.declared.ratio.Ratio.{Ratio}
 use Rattle.bx_grid.specs.Tiles.{tile_count, IsTile, y_of}
@@ -12,17 +13,19 @@ use Rattle.bx_library.specs.Groups.{group_of}
 use Rattle.bx_library.specs.Tiles.{Tiles, IsOffered}
 use Rattle.bx_dots.specs.declared.fault.CutFault.{CutFault}
 use Rattle.bx_dots.specs.declared.fault.CutFault.TheVariants.{StrayDot, StrangeTile, NoMemory}
-use Rattle.bx_dots.specs.Places.{moved, IsStray}
+use Rattle.bx_dots.specs.Places.{moved_dot, IsStray}
 use Rattle.bx_dots.specs.GridDots.{dots_in}
 
--- the group of forms by which a row of tiles is read: the first row by inputs, the last one by outputs where
--- it isn't the first one too, and the rows between them by the others
+-- the group of forms by which a row of tiles is read: the first row by inputs, the last one by
+-- outputs where it isn't the first one too, and the rows between them by the others
 abbrev pub group_of_row : Ratio → ℕ → Group
 group_of_row r y = if y == 0 then Inputs else (if y + 1 == r.h then Outputs else Others)
 
 -- the list has exactly the dots of a set that lie in a tile, as a form of that tile would have them
 abbrev pub AreOwn : Tiles → Ratio → List Dot → ℕ → List Dot → Type 0
-AreOwn lib r dots t owns = (own : Dot) → Contains owns own ↔ ((own.n < lib.width) × (own.m < lib.height) × Contains dots (moved lib r t own))
+AreOwn lib r dots t owns =
+    (own : Dot) → Contains owns own ↔
+    ((own.n < lib.width) × (own.m < lib.height) × Contains dots (moved_dot lib r t own))
 
 -- a tile may be read as this form, or as empty
 abbrev pub MayStand : Tiles → Ratio → ℕ → Option ℕ → Type 0
@@ -48,7 +51,8 @@ pub record IsCut (lib : Tiles) (r : Ratio) (dots : List Dot) (g : FormGrid) : Ty
 pub record IsFirstStray (lib : Tiles) (r : Ratio) (dots : List Dot) (dot : Dot) : Type 0 where
   pub has : Contains dots dot
   pub stray : IsStray lib r dot
-  pub first : (other : Dot) → Contains dots other → IsStray lib r other → (other ≡ dot) ⊎ IsBefore dot other
+  pub first : (other : Dot) → Contains dots other → IsStray lib r other →
+      (other ≡ dot) ⊎ IsBefore dot other
 
 -- a tile can't be read
 abbrev pub IsStrange : Tiles → Ratio → List Dot → ℕ → Type 0

@@ -6,7 +6,7 @@ use Rattle.bx_grid.specs.Tiles.{tile_count, IsTile}
 use Rattle.bx_layout.specs.Grids.{FormGrid, form_at}
 use Rattle.bx_library.specs.declared.dot.Dot.{Dot}
 use Rattle.bx_library.specs.Tiles.{Tiles, form_dots, IsOffered}
-use Rattle.bx_dots.specs.Places.{moved}
+use Rattle.bx_dots.specs.Places.{moved_dot}
 
 -- the dots of the form that stands on a tile, or none where it is empty
 abbrev pub dots_in : Tiles → Option ℕ → List Dot
@@ -23,7 +23,7 @@ pub record IsDotOf (lib : Tiles) (g : FormGrid) (dot : Dot) : Type 0 where
   pub inside : IsTile g.ratio tile
   pub own : Dot
   pub has : Contains (dots_in lib (form_at g tile)) own
-  pub is : dot ≡ moved lib g.ratio tile own
+  pub is : dot ≡ moved_dot lib g.ratio tile own
 
 -- the list has exactly the dots of the grid
 abbrev pub AreDotsOf : Tiles → FormGrid → List Dot → Type 0
@@ -37,10 +37,10 @@ pub record IsNear (r : Ratio) (dot : Dot) : Type 0 where
 
 -- the dots of a tile, and those of all tiles, tile by tile
 abbrev pub tile_dots : Tiles → FormGrid → ℕ → List Dot
-tile_dots lib g t = map (moved lib g.ratio t) (dots_in lib (form_at g t))
+tile_dots lib g t = map (moved_dot lib g.ratio t) (dots_in lib (form_at g t))
 
-abbrev pub listed_to : Tiles → FormGrid → ℕ → List Dot
-listed_to lib g n = flat_map (tile_dots lib g) (range_with_len 0 n)
+abbrev pub dots_below : Tiles → FormGrid → ℕ → List Dot
+dots_below lib g n = flat_map (tile_dots lib g) (range_with_len 0 n)
 
-abbrev pub listed : Tiles → FormGrid → List Dot
-listed lib g = listed_to lib g (tile_count g.ratio)
+abbrev pub grid_dots : Tiles → FormGrid → List Dot
+grid_dots lib g = dots_below lib g (tile_count g.ratio)

@@ -1,5 +1,6 @@
--- Where the tiles of a grid stand on the lattice of dots, and which dots lie in a tile. Tiles stand side by
--- side in rows, and the rows one below the other; odd rows are shifted right by half a tile.
+-- Where the tiles of a grid stand on the lattice of dots, and which dots lie in a tile. Tiles stand
+-- side by side in rows, and the rows one below the other; odd rows are shifted right by half a
+-- tile.
 use Rattle.std.specs.Prelude.{ℕ, ◌+◌, ◌*◌, ◌/◌, ◌<◌, ◌≤◌, if◌then◌else◌}
 use Rattle.bx_grid.specs.declared.ratio.Ratio.{Ratio}
 use Rattle.bx_grid.specs.Tiles.{IsTile, x_of, y_of, is_odd}
@@ -22,8 +23,8 @@ abbrev pub moved_by : ℕ → ℕ → Dot → Dot
 moved_by n m own = record { m = m + own.m; l = own.l; n = n + own.n }
 
 -- a dot of a form, moved to where the tile stands
-abbrev pub moved : Tiles → Ratio → ℕ → Dot → Dot
-moved lib r t own = moved_by (left lib r t) (top lib r t) own
+abbrev pub moved_dot : Tiles → Ratio → ℕ → Dot → Dot
+moved_dot lib r t own = moved_by (left lib r t) (top lib r t) own
 
 -- the dot's dimer lies in the tile
 pub record LiesIn (lib : Tiles) (r : Ratio) (t : ℕ) (dot : Dot) : Type 0 where

@@ -1,6 +1,6 @@
-//! Cutting a set of dots into tiles. It promises the form grid, or the first thing that is in the way of
-//! one, unless memory runs out. Each tile finds its rows of dots by halving and looks through those, so
-//! that a dot is looked at as often as its row has tiles, wherever the dots lie.
+//! Cutting a set of dots into tiles. It promises the form grid, or the first thing that is in the
+//! way of one, unless memory runs out. Each tile finds its rows of dots by halving and looks
+//! through those, so that a dot is looked at as often as its row has tiles, wherever the dots lie.
 ghost use Rattle.std.specs.Prelude.{◌≡◌, ◌≢◌, ◌≤◌, ℕ, length, slice_index_or, vec_len, None, Result, Ok, Err, IfOk, IfErr, OnOk, OnErr};
 ghost use Rattle.bx_grid.specs.declared.ratio.TheConstants.{MOST_LIMIT};
 ghost use Rattle.bx_grid.specs.Tiles.{tile_count, IsGrid, IsTile};
@@ -21,14 +21,14 @@ use bx_layout::FormGrid;
 use bx_library::{Dot, Library};
 use std::alloc::Global;
 
-/// The form grid of which these are the dots, by the forms of the library. The first row is read by inputs
-/// alone, the last one by outputs alone where it isn't the first one too, and the rows between them by the
-/// other forms.
+/// The form grid of which these are the dots, by the forms of the library. The first row is read by
+/// inputs alone, the last one by outputs alone where it isn't the first one too, and the rows
+/// between them by the other forms.
 ///
 /// # Errors
 ///
-/// `StrayDot` with the first dot that lies in no tile, else `StrangeTile` with the least tile whose dots
-/// are neither none nor those of a form of its row, or `NoMemory`.
+/// `StrayDot` with the first dot that lies in no tile, else `StrangeTile` with the least tile whose
+/// dots are neither none nor those of a form of its row, or `NoMemory`.
 pub fn cut(
     alloc: Global,
     library: &Library,
@@ -43,11 +43,15 @@ pub fn cut(
     // The grid that is answered is the one that the dots are cut into.
     ensures found { IfOk result (λ grid. CutsTo library.now ratio dots.now (Ok grid)) }
     // The fault that is answered is the first one.
-    ensures faults { IfErr result (λ fault. fault ≢ CutFault.NoMemory → CutsTo library.now ratio dots.now (Err fault)) }
+    ensures faults { IfErr result
+        (λ fault. fault ≢ CutFault.NoMemory → CutsTo library.now ratio dots.now (Err fault)) }
     // What cutting gives is answered, unless memory runs out.
-    ensures exact { (r : Result Grid Fault) → CutsTo library.now ratio dots.now r → result ≢ Err CutFault.NoMemory → result ≡ r }
+    ensures exact { (r : Result Grid Fault) → CutsTo library.now ratio dots.now r →
+        result ≢ Err CutFault.NoMemory → result ≡ r }
     // The dots of a sound grid give this grid.
-    ensures back { (grid : Grid) → grid.ratio ≡ ratio → length grid.tiles ≡ tile_count ratio → IsSound grid → AreOffered library.now grid → AreDotsOf library.now grid dots.now → result ≢ Err CutFault.NoMemory → result ≡ Ok grid }
+    ensures back { (grid : Grid) → grid.ratio ≡ ratio → length grid.tiles ≡ tile_count ratio →
+        IsSound grid → AreOffered library.now grid → AreDotsOf library.now grid dots.now →
+        result ≢ Err CutFault.NoMemory → result ≡ Ok grid }
 {
     refuse_strays(library, ratio, dots)?;
     let tiles = read_tiles(alloc, library, ratio, dots)?;
@@ -80,8 +84,10 @@ fn read_tiles(
     requires grid { IsGrid ratio }
     requires ascending { IsAscending dots.now }
     ensures whole { IfOk result (λ tiles. vec_len tiles ≡ tile_count ratio) }
-    ensures tiles { IfOk result (λ tiles. (t : ℕ) → IsTile ratio t → ReadsAs library.now ratio dots.now t (slice_index_or tiles.items t None)) }
-    ensures err { IfErr result (λ fault. fault ≢ CutFault.NoMemory → IsStrangeFault library.now ratio dots.now fault) }
+    ensures tiles { IfOk result (λ tiles. (t : ℕ) → IsTile ratio t →
+        ReadsAs library.now ratio dots.now t (slice_index_or tiles.items t None)) }
+    ensures err { IfErr result
+        (λ fault. fault ≢ CutFault.NoMemory → IsStrangeFault library.now ratio dots.now fault) }
     ensures kept { result ≢ Err CutFault.NoMemory → IsLibrary library.now }
 {
     let mut tiles = Vec::with_capacity(alloc, ratio.w as usize * ratio.h as usize)?;

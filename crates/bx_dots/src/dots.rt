@@ -3,7 +3,7 @@ ghost use Rattle.std.specs.Prelude.{◌≡◌, ◌<◌, ◌≤◌, ◌*◌, ◌^
 ghost use Rattle.bx_grid.specs.Tiles.{tile_count};
 ghost use Rattle.bx_library.specs.Dots.{IsAscending};
 ghost use Rattle.bx_library.specs.Tiles.{IsLibrary};
-ghost use Rattle.bx_dots.specs.GridDots.{AreOffered, AreDotsOf, IsNear, listed};
+ghost use Rattle.bx_dots.specs.GridDots.{AreOffered, AreDotsOf, IsNear, grid_dots};
 ghost use Rattle.bx_dots.specs.Places.{moved_by};
 
 use crate::place::Origin;
@@ -32,7 +32,7 @@ pub fn dots_of(alloc: Global, library: &Library, grid: &FormGrid) -> Result<Vec<
 // The dots of all tiles, tile by tile.
 fn by_tile(alloc: Global, library: &Library, grid: &FormGrid) -> Result<Vec<Dot>, NoMemory>
     requires { AreOffered library.now grid.now }
-    ensures listed { IfOk result (λ dots. dots.items ≡ listed library.now grid.now) }
+    ensures listed { IfOk result (λ dots. dots.items ≡ grid_dots library.now grid.now) }
     ensures kept { IfOk result (λ dots. 0 < length dots.items → IsLibrary library.now) }
 {
     let ratio = grid.ratio();
@@ -64,7 +64,8 @@ fn dot_count(library: &Library, grid: &FormGrid) -> usize
 fn push_moved(dots: &mut Vec<Dot>, owns: &[Dot], origin: Origin) -> Result<(), NoMemory>
     requires near { (origin.n < 2 ^ 31) × (origin.m < 2 ^ 31) }
     requires small { All (λ own. (own.n < 2 ^ 31) × (own.m < 2 ^ 31)) owns.now }
-    ensures { OnOk result (dots.new.items ≡ dots.old.items ++ map (moved_by origin.n origin.m) owns.now) }
+    ensures { OnOk result
+        (dots.new.items ≡ dots.old.items ++ map (moved_by origin.n origin.m) owns.now) }
 {
     for own in owns {
         dots.push(origin.moved(*own))?;

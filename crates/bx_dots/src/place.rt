@@ -5,11 +5,11 @@ ghost use Rattle.bx_library.specs.Tiles.{IsLibrary};
 ghost use Rattle.bx_dots.specs.Places.{shift as shift_of, left, top, moved_by, IsStray};
 ghost use Rattle.bx_dots.specs.Reading.{moved_back as back_by};
 
-use bx_grid::Ratio;
+use bx_grid::{Ratio, column_and_row};
 use bx_library::{Dot, Library};
 
-/// The first dimer of each row of a tile, and the first row of dimers: where a dot of its form at 0 and 0
-/// stands.
+/// The first dimer of each row of a tile, and the first row of dimers: where a dot of its form at 0
+/// and 0 stands.
 #[derive(Clone, Copy)]
 pub(crate) struct Origin {
     pub(crate) n: u32,
@@ -26,8 +26,7 @@ impl Origin {
         ensures near { (result.n < 2 ^ 31) × (result.m < 2 ^ 31) }
         ensures kept { IsLibrary library.now }
     {
-        let row = tile / ratio.w;
-        let column = tile % ratio.w;
+        let (column, row) = column_and_row(ratio, tile);
         Origin {
             n: column * library.width() + shift(library, row),
             m: row * library.height(),

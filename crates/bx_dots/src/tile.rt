@@ -10,8 +10,8 @@ ghost use Rattle.bx_dots.specs.Reading.{IsFormWith, IsRefusal, is_among, moved_b
 use crate::CutFault;
 use crate::place::Origin;
 use bx_forms::Form;
-use bx_grid::Ratio;
-use bx_library::{Dot, Group, Library};
+use bx_grid::{Ratio, column_and_row};
+use bx_library::{Dot, Group, Library, same_list};
 use bx_logic::NoMemory;
 use std::alloc::Global;
 
@@ -38,7 +38,8 @@ pub(crate) fn read_tile(
     if owns.is_empty() {
         return Ok(None);
     }
-    let group = group_of_row(ratio, tile / ratio.w);
+    let (_, row) = column_and_row(ratio, tile);
+    let group = group_of_row(ratio, row);
     match form_with(library, group, &owns) {
         Some(form) => Ok(Some(form)),
         None => Err(CutFault::StrangeTile(tile)),
@@ -85,13 +86,6 @@ fn is_form_with(library: &Library, form: Form, group: Group, owns: &[Dot]) -> bo
     same_list(library.dots(form), owns)
 }
 
-// Whether two lists are one.
-fn same_list(dots: &[Dot], others: &[Dot]) -> bool
-    ensures { IsTrue result ↔ (dots.now ≡ others.now) }
-{
-    dots.cmp(&others).is_eq()
-}
-
 // The dots in a tile, as a form of that tile would have them.
 fn own_dots(
     alloc: Global,
@@ -115,7 +109,8 @@ fn own_dots(
 // The dots in these rows of dimers.
 fn between(dots: &[Dot], top: u32, bottom: u32) -> &[Dot]
     requires { IsAscending dots.now }
-    ensures same { (dot : Dot) → Contains result.now dot ↔ (Contains dots.now dot × (top ≤ dot.m) × (dot.m < bottom)) }
+    ensures same { (dot : Dot) →
+        Contains result.now dot ↔ (Contains dots.now dot × (top ≤ dot.m) × (dot.m < bottom)) }
     ensures ascending { IsAscending result.now }
 {
     let first = dots.partition_point(|dot| dot.m < top);
@@ -124,11 +119,13 @@ fn between(dots: &[Dot], top: u32, bottom: u32) -> &[Dot]
     &rest[..count]
 }
 
-// Of the dots in a tile's rows, those that stand among its dimers, as a form of that tile would have them.
+// Of the dots in a tile's rows, those that stand among its dimers, as a form of that tile would
+// have them.
 fn among(alloc: Global, rows: &[Dot], origin: Origin, width: u32) -> Result<Vec<Dot>, NoMemory>
     requires near { origin.n + width < 2 ^ 32 }
     requires below { All (λ dot. origin.m ≤ dot.m) rows.now }
-    ensures { IfOk result (λ owns. owns.items ≡ map (back_by origin.n origin.m) (filter (is_among origin.n width) rows.now)) }
+    ensures { IfOk result (λ owns. owns.items ≡
+        map (back_by origin.n origin.m) (filter (is_among origin.n width) rows.now)) }
 {
     let right = origin.n + width;
     let mut owns = Vec::new(alloc);

@@ -11,8 +11,8 @@ use Rattle.bx_forms.specs.declared.table.Function.TheVariants as function
 use Rattle.bx_forms.specs.declared.table.Shape.{Shape}
 use Rattle.bx_forms.specs.Kinds.{operands, slots, gives}
 use Rattle.bx_forms.specs.Sides.{is_used, side_count}
-use Rattle.bx_forms.specs.Forms.{shape_of, shape_node, shape_upper, shape_lower, shape_sends, form_node, form_upper, form_lower, form_sends, function_value, slot_on, IsFormWith, IsFormOf}
-use Rattle.bx_forms.proofs.Lines.{AllFrom, from-all, shaped-within}
+use Rattle.bx_forms.specs.Forms.{IsForm, shape_of, shape_node, shape_upper, shape_lower, shape_sends, form_node, form_upper, form_lower, form_sends, function_value, slot_on, IsFormWith, IsFormOf}
+use Rattle.bx_forms.proofs.Lines.{AllForms, at-form, shaped-within}
 
 -- the function of the forms that hold a node of this kind
 kind_function : Kind → Function
@@ -43,108 +43,35 @@ form_index Nor upper lower = 20 + place lower.left
 form_index Xor upper lower = 22 + place lower.left
 form_index Xnor upper lower = 24 + place lower.left
 
-record IsRight (form : ℕ) (shape : Shape) (kind : Kind) : Type 0 where
-  function : shape.function ≡ kind_function kind
-  index : form ≡ form_index kind shape.upper shape.lower
-  upper : side_count shape.upper ≡ operands kind
-  lower : side_count shape.lower ≡ slots kind
+-- what a line says of its function, its number and its sides, and what its node's kind wants there
+record Told : Type 0 where
+  function : Function
+  index : ℕ
+  upper : ℕ
+  lower : ℕ
+
+told : ℕ → Shape → Told
+told form shape = record { function = shape.function; index = form; upper = side_count shape.upper; lower = side_count shape.lower }
+
+wanted : Shape → Kind → Told
+wanted shape kind = record { function = kind_function kind; index = form_index kind shape.upper shape.lower; upper = operands kind; lower = slots kind }
+
+IsRight : ℕ → Shape → Kind → Type 0
+IsRight form shape kind = told form shape ≡ wanted shape kind
 
 LineIsRight : ℕ → Type 0
 LineIsRight form = IfSome (shape_of form) (λ shape. IfSome shape.node (IsRight form shape))
 
-lines-right : AllFrom LineIsRight 0 28
-unfolding LineIsRight kind_function form_index place
-lines-right = (
-  record { function = refl; index = refl; upper = refl; lower = refl },
-  (
-    record { function = refl; index = refl; upper = refl; lower = refl },
-    (
-      record { function = refl; index = refl; upper = refl; lower = refl },
-      (
-        record { function = refl; index = refl; upper = refl; lower = refl },
-        (
-          tt,
-          (
-            tt,
-            (
-              tt,
-              (
-                tt,
-                (
-                  record { function = refl; index = refl; upper = refl; lower = refl },
-                  (
-                    record { function = refl; index = refl; upper = refl; lower = refl },
-                    (
-                      record { function = refl; index = refl; upper = refl; lower = refl },
-                      (
-                        record { function = refl; index = refl; upper = refl; lower = refl },
-                        (
-                          record { function = refl; index = refl; upper = refl; lower = refl },
-                          (
-                            record { function = refl; index = refl; upper = refl; lower = refl },
-                            (
-                              record { function = refl; index = refl; upper = refl; lower = refl },
-                              (
-                                record { function = refl; index = refl; upper = refl; lower = refl },
-                                (
-                                  record { function = refl; index = refl; upper = refl; lower = refl },
-                                  (
-                                    record { function = refl; index = refl; upper = refl; lower = refl },
-                                    (
-                                      record { function = refl; index = refl; upper = refl; lower = refl },
-                                      (
-                                        record { function = refl; index = refl; upper = refl; lower = refl },
-                                        (
-                                          record { function = refl; index = refl; upper = refl; lower = refl },
-                                          (
-                                            record { function = refl; index = refl; upper = refl; lower = refl },
-                                            (
-                                              record { function = refl; index = refl; upper = refl; lower = refl },
-                                              (
-                                                record { function = refl; index = refl; upper = refl; lower = refl },
-                                                (
-                                                  record { function = refl; index = refl; upper = refl; lower = refl },
-                                                  (
-                                                    record { function = refl; index = refl; upper = refl; lower = refl },
-                                                    (
-                                                      tt,
-                                                      (
-                                                        tt,
-                                                        tt,
-                                                      ),
-                                                    ),
-                                                  ),
-                                                ),
-                                              ),
-                                            ),
-                                          ),
-                                        ),
-                                      ),
-                                    ),
-                                  ),
-                                ),
-                              ),
-                            ),
-                          ),
-                        ),
-                      ),
-                    ),
-                  ),
-                ),
-              ),
-            ),
-          ),
-        ),
-      ),
-    ),
-  ),
-)
+lines-right : AllForms LineIsRight
+unfolding LineIsRight IsRight told wanted kind_function form_index place
+lines-right =
+    (refl, (refl, (refl, (refl, (tt, (tt, (tt, (tt, (refl, (refl, (refl, (refl, (refl, (refl, (refl, (refl, (refl, (refl, (refl, (refl, (refl, (refl, (refl, (refl, (refl, (refl, (tt, (tt, tt))))))))))))))))))))))))))))
 
 right-at : (found : Option Shape) (form : ℕ) (kind : Kind) → shape_of form ≡ found → shape_node found ≡ Some kind → (shape : Shape) × (found ≡ Some shape) × IsRight form shape kind
 unfolding LineIsRight
 right-at None form kind is node = absurd (cc)
 right-at (Some shape) form kind is node =
-    let line : LineIsRight form = from-all LineIsRight 0 28 lines-right form (omega arith) (shaped-within form shape is) in
+    let line : LineIsRight form = at-form LineIsRight lines-right form (shaped-within form shape is) in
     let here : IfSome shape.node (IsRight form shape) = subst (λ (o : Option Shape). IfSome o (λ s. IfSome s.node (IsRight form s))) is line in
     (shape, refl, subst (λ (o : Option Kind). IfSome o (IsRight form shape)) node here)
 
@@ -152,21 +79,32 @@ right-at (Some shape) form kind is node =
 record IsLineOf (kind : Kind) (form : ℕ) : Type 0 where
   shape : Shape
   is : shape_of form ≡ Some shape
-  right : IsRight form shape kind
+  function : shape.function ≡ kind_function kind
+  index : form ≡ form_index kind shape.upper shape.lower
+  upper : side_count shape.upper ≡ operands kind
+  lower : side_count shape.lower ≡ slots kind
 
 line-of : (form : ℕ) (kind : Kind) → form_node form ≡ Some kind → IsLineOf kind form
+unfolding IsRight told wanted
 line-of form kind node =
     let (shape, is, right) = right-at (shape_of form) form kind refl node in
-    record { shape = shape; is = is; right = right }
+    record {
+      shape = shape;
+      is = is;
+      function = ap (λ (t : Told). t.function) right;
+      index = ap (λ (t : Told). t.index) right;
+      upper = ap (λ (t : Told). t.upper) right;
+      lower = ap (λ (t : Told). t.lower) right;
+    }
 
-pub node-within : (form : ℕ) (kind : Kind) → form_node form ≡ Some kind → form < 28
+pub node-within : (form : ℕ) (kind : Kind) → form_node form ≡ Some kind → IsForm form
 node-within form kind node = let line = line-of form kind node in shaped-within form line.shape line.is
 
 -- a form has a side for each edge of its node
 pub sides-counted : (form : ℕ) (kind : Kind) → form_node form ≡ Some kind → (side_count (form_upper form) ≡ operands kind) × (side_count (form_lower form) ≡ slots kind)
 sides-counted form kind node =
     let line = line-of form kind node in
-    (ap (λ o. side_count (shape_upper o)) line.is ∙ line.right.upper, ap (λ o. side_count (shape_lower o)) line.is ∙ line.right.lower)
+    (ap (λ o. side_count (shape_upper o)) line.is ∙ line.upper, ap (λ o. side_count (shape_lower o)) line.is ∙ line.lower)
 
 used-some : (sides : Sides) (side : Side) → is_used sides side ≡ true → 0 < side_count sides
 used-some sides Left used = rw used (omega arith)
@@ -190,10 +128,10 @@ pub node-sends : (form : ℕ) (kind : Kind) → form_node form ≡ Some kind →
 node-sends form kind node side slot used reads =
     let line = line-of form kind node in
     let lower : is_used line.shape.lower side ≡ true = sym (ap (λ o. is_used (shape_lower o) side) line.is) ∙ used in
-    let some : 0 < slots kind = let a = used-some line.shape.lower side lower in let b = line.right.lower in omega arith in
+    let some : 0 < slots kind = let a = used-some line.shape.lower side lower in let b = line.lower in omega arith in
     ap (λ o. shape_sends o reads side) line.is
     ∙ ap (λ (b : Bool). if b then function_value line.shape.function reads side else false) lower
-    ∙ ap (λ f. function_value f reads side) line.right.function
+    ∙ ap (λ f. function_value f reads side) line.function
     ∙ function-gives kind reads side slot some
 
 exit-used : (left right : Option ℕ) (side : Side) (slot : ℕ) → slot_on left right side ≡ Some slot → is_used (record { left = is_some left; right = is_some right }) side ≡ true
@@ -215,7 +153,7 @@ one-with kind upper lower f g a b = index f a ∙ sym (index g b)
         let line = line-of form kind h.node in
         let up : line.shape.upper ≡ upper = sym (ap shape_upper line.is) ∙ h.upper_sides in
         let low : line.shape.lower ≡ lower = sym (ap shape_lower line.is) ∙ h.lower_sides in
-        line.right.index ∙ ap (λ s. form_index kind s line.shape.lower) up ∙ ap (form_index kind upper) low
+        line.index ∙ ap (λ s. form_index kind s line.shape.lower) up ∙ ap (form_index kind upper) low
 
 abbrev sides_of : Bool → Bool → Sides
 sides_of left right = record { left = left; right = right }

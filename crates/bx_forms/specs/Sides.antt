@@ -18,4 +18,5 @@ side_count sides = (if sides.left then 1 else 0) + (if sides.right then 1 else 0
 
 -- of a value on the left and one on the right, those on the used sides, from left to right
 abbrev pub used_values : Sides → Bool → Bool → List Bool
-used_values sides left right = (if sides.left then left ∷ [] else []) ++ (if sides.right then right ∷ [] else [])
+used_values sides left right =
+    (if sides.left then left ∷ [] else []) ++ (if sides.right then right ∷ [] else [])

@@ -1,9 +1,9 @@
-//! Forms, each a line of the table: what it is called, which sides it uses, what it holds, and what it
-//! gives. What a form means on a grid is for the grids to say.
+//! Forms, each a line of the table: what it is called, which sides it uses, what it holds, and what
+//! it gives. What a form means on a grid is for the grids to say.
 ghost use Rattle.std.specs.Prelude.{◌≡◌, ◌≢◌, ◌↔◌, ℕ, Some, IfSome, IsSome, IsNone, IsTrue};
 ghost use Rattle.bx_forms.specs.declared.kind.Kind.TheVariants.{Input};
 ghost use Rattle.bx_forms.specs.declared.side.Side.TheVariants.{Left, Right};
-ghost use Rattle.bx_forms.specs.Forms.{IsForm, form_name, form_node, form_upper, form_lower, form_value, shape_of, IsFormWith, IsFormOf};
+ghost use Rattle.bx_forms.specs.Forms.{IsForm, forms, form_name, form_node, form_upper, form_lower, form_value, shape_of, IsFormWith, IsFormOf};
 
 use crate::table::{COUNT, FORMS, Shape};
 use crate::{Kind, Side, Sides};
@@ -29,20 +29,16 @@ impl Model for Form {
 }
 
 impl Form {
-    /// An input that goes on to the lower right.
-    pub const INPUT_R: Form = Form { number: 1 };
-
-    /// An output that reads from the upper left.
-    pub const OUTPUT_L: Form = Form { number: 2 };
-
-    /// An output that reads from the upper right.
-    pub const OUTPUT_R: Form = Form { number: 3 };
-
-    /// A negation from the upper left to the lower left.
-    pub const NOT_LL: Form = Form { number: 8 };
-
-    /// A negation from the upper right to the lower right.
-    pub const NOT_RR: Form = Form { number: 11 };
+    /// All forms, in the order of the table.
+    pub fn all() -> [Form; COUNT as usize]
+        ensures { result ≡ forms }
+    {
+        let mut all = [Form { number: 0 }; COUNT as usize];
+        for number in 0..COUNT {
+            all[usize::from(number)] = Form { number };
+        }
+        all
+    }
 
     /// The form with this number, or none where the table has no such line.
     pub fn from_number(n: u8) -> Option<Form>
@@ -106,12 +102,12 @@ impl Form {
         self.shape().lower
     }
 
-    /// The form of a node of this kind that uses these upper sides, where its slot `left` leaves on the
-    /// lower left and its slot `right` on the lower right, or none does; or none where there is no such
-    /// form.
+    /// The form of a node of this kind that uses these upper sides, where its slot `left` leaves on
+    /// the lower left and its slot `right` on the lower right, or none does; or none where there is no
+    /// such form.
     pub fn of_node(kind: Kind, upper: Sides, left: Option<u8>, right: Option<u8>) -> Option<Form>
         ensures some { IfSome result (IsFormOf kind upper left right) }
-        ensures none { IsNone result → (form : ℕ) → IsFormOf kind upper left right form → ⊥ }
+        ensures none { IsNone result → (f : ℕ) → IsFormOf kind upper left right f → ⊥ }
     {
         let lower = Sides {
             left: left.is_some(),
@@ -126,8 +122,9 @@ impl Form {
         None
     }
 
-    /// What goes out on the lower left and the lower right for what comes in on the upper left and the
-    /// upper right: false on a side that isn't used. What an input form sends is given from outside.
+    /// What goes out on the lower left and the lower right for what comes in on the upper left and
+    /// the upper right: false on a side that isn't used. What an input form sends is given from
+    /// outside.
     pub fn apply(self, left: bool, right: bool) -> (bool, bool)
         requires { form_node self ≢ Some Input }
         ensures left { result.0 ≡ form_value self left right Left }

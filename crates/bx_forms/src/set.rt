@@ -33,6 +33,15 @@ impl FormSet {
         }
     }
 
+    /// The set of all forms.
+    pub fn all() -> FormSet
+        ensures { (form : ℕ) → IsIn result form ↔ IsForm form }
+    {
+        FormSet {
+            has: [true; COUNT as usize],
+        }
+    }
+
     /// The set with this form beside those that it had.
     pub fn with(self, form: Form) -> FormSet
         ensures { (other : ℕ) → IsIn result other ↔ (IsIn self other ⊎ (other ≡ form)) }

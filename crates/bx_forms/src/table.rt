@@ -8,8 +8,8 @@ ghost use Rattle.bx_forms.specs.Forms.{function_value, second_value};
 
 use crate::{Kind, Side, Sides};
 
-// What a form gives for the values that it reads, from left to right. It goes out on each lower side
-// that is used.
+// What a form gives for the values that it reads, from left to right. It goes out on each lower
+// side that is used.
 #[derive(Clone, Copy)]
 pub enum Function {
     // The value that is given from outside.
@@ -133,8 +133,8 @@ macro_rules! shape {
 pub const COUNT: u8 = 28;
 
 // The forms, each at its number. In a name the letters are first the upper side, then the lower one,
-// as far as the form has a choice there. A line is read where it stands: the table is no constant, of which
-// each use would be a copy.
+// as far as the form has a choice there. A line is read where it stands: the table is no constant, of
+// which each use would be a copy.
 pub static FORMS: [(&str, Shape); COUNT as usize] = [
     ("input_l", shape!(NEITHER, LEFT, Some(Kind::Input), Given)),
     ("input_r", shape!(NEITHER, RIGHT, Some(Kind::Input), Given)),

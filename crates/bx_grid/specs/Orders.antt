@@ -3,16 +3,22 @@ use Rattle.std.specs.Prelude.{◌≡◌, ℕ, ◌*◌, ◌/◌, ◌%◌, ◌<◌
 use Rattle.std.specs.List.{range_with_len}
 use Rattle.bx_grid.specs.declared.ratio.Ratio.{Ratio}
 use Rattle.bx_grid.specs.declared.ratio.Limits.{Limits}
-use Rattle.bx_grid.specs.declared.ratio.TheConstants.{MOST_LIMIT}
 
 -- each limit is from 1 to 144
 pub record AreLimits (limits : Limits) : Type 0 where
   pub some_area : 1 ≤ limits.area
   pub some_width : 1 ≤ limits.width
   pub some_height : 1 ≤ limits.height
-  pub area : limits.area ≤ MOST_LIMIT
-  pub width : limits.width ≤ MOST_LIMIT
-  pub height : limits.height ≤ MOST_LIMIT
+  pub area : limits.area ≤ 144
+  pub width : limits.width ≤ 144
+  pub height : limits.height ≤ 144
+
+-- the sides of a grid that has a file: each is from 1 to 144
+pub record IsRatio (ratio : Ratio) : Type 0 where
+  pub some_width : 1 ≤ ratio.w
+  pub some_height : 1 ≤ ratio.h
+  pub width : ratio.w ≤ 144
+  pub height : ratio.h ≤ 144
 
 -- a ratio that may be tried
 pub record IsWithin (limits : Limits) (ratio : Ratio) : Type 0 where

@@ -2,7 +2,6 @@
 -- row is shifted right by half a tile, so each tile has two tiles below it and two above.
 use Rattle.std.specs.Prelude.{◌≡◌, ◌==◌, ◌<◌, ◌≤◌, ℕ, zero, suc, ◌+◌, ◌*◌, ◌/◌, ◌%◌, List, take, drop, Bool, true, false, ◌&&◌, nat_lt, if◌then◌else◌, Option, Some, None, option_map}
 use Rattle.bx_grid.specs.declared.ratio.Ratio.{Ratio}
-use Rattle.bx_grid.specs.declared.ratio.TheConstants.{MOST_TILES}
 use Rattle.bx_forms.specs.declared.side.Side.{Side}
 use Rattle.bx_forms.specs.declared.side.Side.TheVariants.{Left, Right}
 use Rattle.bx_forms.specs.Sides.{opposite}
@@ -11,11 +10,11 @@ use Rattle.bx_forms.specs.Sides.{opposite}
 abbrev pub tile_count : Ratio → ℕ
 tile_count r = r.w * r.h
 
--- there is a tile, and there aren't too many
+-- there is a tile, and there are at most 2^22
 pub record IsGrid (r : Ratio) : Type 0 where
   pub wide : 1 ≤ r.w
   pub high : 1 ≤ r.h
-  pub small : tile_count r ≤ MOST_TILES
+  pub small : tile_count r ≤ 4194304
 
 -- the column and the row of a tile
 abbrev pub x_of : Ratio → ℕ → ℕ
@@ -50,8 +49,8 @@ abbrev pub one_less : ℕ → Option ℕ
 one_less zero = None
 one_less (suc n) = Some n
 
--- the column of the tile that stands on this side of column x, in the rows below and above an odd row
--- or an even one
+-- the column of the tile that stands on this side of column x, in the rows below and above an odd
+-- row or an even one
 abbrev pub column_beside : Bool → Side → ℕ → Option ℕ
 column_beside false Left x = one_less x
 column_beside false Right x = Some x

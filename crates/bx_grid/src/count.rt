@@ -1,5 +1,5 @@
-//! Names for the refutations of a ratio by counting. A name says which inequality is meant; what the
-//! inequality is, and that it leaves no layout, is for the counting itself to say.
+//! Names for the refutations of a ratio by counting. A name says which inequality is meant; what
+//! the inequality is, and that it leaves no layout, is for the counting itself to say.
 
 /// Which inequality refutes a ratio. Nodes and rows are numbered from 0.
 #[derive(Clone, Copy)]

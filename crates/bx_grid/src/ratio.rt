@@ -1,5 +1,6 @@
-//! The sides of a grid, and the limits within which they are searched. Both are plain numbers; what a
-//! call asks of them is in its contract, and which ratios lie within limits is for the order to say.
+//! The sides of a grid, and the limits within which they are searched. Both are plain numbers; what
+//! a call asks of them is in its contract, and which ratios lie within limits is for the order to
+//! say.
 
 /// The most tiles that a grid has.
 pub const MOST_TILES: u32 = 4_194_304;
@@ -7,8 +8,8 @@ pub const MOST_TILES: u32 = 4_194_304;
 /// The most that a limit is.
 pub const MOST_LIMIT: u32 = 144;
 
-/// The sides of a grid: so many tiles in a row, and so many rows. Both are at least 1 wherever a call
-/// takes a ratio, and their product is at most [`MOST_TILES`].
+/// The sides of a grid: so many tiles in a row, and so many rows. Both are at least 1 wherever a
+/// call takes a ratio, and their product is at most [`MOST_TILES`].
 #[derive(Clone, Copy)]
 pub struct Ratio {
     /// Tiles in a row.

@@ -1,6 +1,6 @@
-//! The ratios that are tried within limits, in their order: by area, and ratios of one area by width.
-//! The list is never built: a ratio is found by going through the areas and the widths, of which there
-//! are some ten thousand pairs at most.
+//! The ratios that are tried within limits, in their order: by area, and ratios of one area by
+//! width. The list is never built: a ratio is found by going through the areas and the widths, of
+//! which there are some ten thousand pairs at most.
 ghost use Rattle.std.specs.Prelude.{◌≡◌, ◌<◌, ◌≤◌, ◌==◌, ◌&&◌, ℕ, List, length, slice_get, Some, IsTrue};
 ghost use Rattle.bx_grid.specs.Orders.{AreLimits, IsWithin, divides, of_width as ratio_of_width, fits, of_area, order};
 
@@ -48,8 +48,8 @@ impl Ratios {
         count
     }
 
-    /// The ratio at index k, from 0. Takes no memory, and looks at some ten thousand pairs of an area
-    /// and a width at most.
+    /// The ratio at index k, from 0. Takes no memory, and looks at some ten thousand pairs of an
+    /// area and a width at most.
     pub fn at(&self, k: u64) -> Ratio
         requires { k < length self.now }
         ensures { slice_get self.now k ≡ Some result }

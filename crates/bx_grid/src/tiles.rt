@@ -1,12 +1,21 @@
 //! Where the tiles of a grid stand, and the borders between them. Tile (x, y) has the number
-//! y * w + x. Odd rows are shifted right by half a tile, so each tile has a left and a right one below
-//! it and above it, unless they are off the grid. What comes in on an upper side comes by the lower side
-//! of the tile above.
-ghost use Rattle.std.specs.Prelude.{◌≡◌, ℕ, ◌+◌, ◌<◌, ◌^◌, Option, Some, IfSome};
+//! y * w + x. Odd rows are shifted right by half a tile, so each tile has a left and a right one
+//! below it and above it, unless they are off the grid. What comes in on an upper side comes by the
+//! lower side of the tile above.
+ghost use Rattle.std.specs.Prelude.{◌≡◌, ℕ, ◌+◌, ◌<◌, ◌≤◌, ◌^◌, Option, Some, IfSome};
 ghost use Rattle.bx_grid.specs.Tiles.{IsGrid, IsTile, is_odd, x_of, y_of, one_less, column_beside as column_of, below as tile_below, above as tile_above, border as border_of, entering as border_entering};
 
 use crate::ratio::{MOST_TILES, Ratio};
 use bx_forms::Side;
+
+/// The column and the row of a tile.
+pub fn column_and_row(ratio: Ratio, tile: u32) -> (u32, u32)
+    requires { 1 ≤ ratio.w }
+    ensures column { result.0 ≡ x_of ratio tile }
+    ensures row { result.1 ≡ y_of ratio tile }
+{
+    (tile % ratio.w, tile / ratio.w)
+}
 
 /// The tile below on this side, or none where it is off the grid.
 pub fn below(ratio: Ratio, tile: u32, side: Side) -> Option<u32>
@@ -14,10 +23,10 @@ pub fn below(ratio: Ratio, tile: u32, side: Side) -> Option<u32>
     requires tile { IsTile ratio tile }
     ensures { result ≡ tile_below ratio tile side }
 {
-    let y = tile / ratio.w;
-    let x = column_beside(y % 2 == 1, side, tile % ratio.w)?;
-    if x < ratio.w && y + 1 < ratio.h {
-        Some((y + 1) * ratio.w + x)
+    let (column, row) = column_and_row(ratio, tile);
+    let x = column_beside(row % 2 == 1, side, column)?;
+    if x < ratio.w && row + 1 < ratio.h {
+        Some((row + 1) * ratio.w + x)
     } else {
         None
     }
@@ -54,13 +63,13 @@ fn above(ratio: Ratio, tile: u32, side: Side) -> Option<u32>
     ensures is { result ≡ tile_above ratio tile side }
     ensures lower { IfSome result (λ u. u < tile) }
 {
-    let row = tile / ratio.w;
-    if row == 0 {
+    let (x, y) = column_and_row(ratio, tile);
+    if y == 0 {
         return None;
     }
-    let x = column_beside(row % 2 == 1, side, tile % ratio.w)?;
+    let x = column_beside(y % 2 == 1, side, x)?;
     if x < ratio.w {
-        Some((row - 1) * ratio.w + x)
+        Some((y - 1) * ratio.w + x)
     } else {
         None
     }

@@ -10,7 +10,7 @@ use Rattle.bx_network.specs.declared.node.Edge.{Edge}
 use Rattle.bx_network.specs.Networks.{Network, IsNetwork}
 use Rattle.bx_network.proofs.Lists.{IsAt, got-at, got-all}
 use Rattle.bx_layout.specs.declared.layout.Layout.{Layout}
-use Rattle.bx_layout.specs.Layouts.{Stands, edge_on, enters, leaves, one_if_is, ways_in, ways_out, held}
+use Rattle.bx_layout.specs.Layouts.{Stands, edge_on, enters, leaves, one_if_is, ways_in, ways_out, stands_count}
 use Rattle.bx_layout.specs.Legal.{IsPlaced, IsBalanced}
 
 -- ---- options
@@ -109,10 +109,10 @@ module _ (N : Network) (L : Layout) (network : IsNetwork N) (placed : IsPlaced N
   pub place-of : (v : ℕ) → v < length N.nodes → IsAt L.places v
   place-of v h = let same = placed.places in got-at L.places v (omega (arith, same))
 
-  held-one : (t v : ℕ) → Stands L v t → held L t v ≡ 1
+  held-one : (t v : ℕ) → Stands L v t → stands_count L t v ≡ 1
   held-one t v h = one-is (slice_get L.places v) t h
 
-  held-none : (t v : ℕ) → (Stands L v t → ⊥) → held L t v ≡ 0
+  held-none : (t v : ℕ) → (Stands L v t → ⊥) → stands_count L t v ≡ 0
   held-none t v h = one-not (slice_get L.places v) t h
 
   -- at the tile of its source

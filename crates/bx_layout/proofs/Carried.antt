@@ -20,12 +20,12 @@ use Rattle.bx_network.specs.declared.node.Node.{Node}
 use Rattle.bx_network.specs.declared.node.Edge.{Edge}
 use Rattle.bx_network.specs.Networks.{Network, IsNetwork, HasPort}
 use Rattle.bx_network.specs.Values.{edge_into, values_into, node_reads, IsValuation}
-use Rattle.bx_network.specs.Values.{reads as node_reads_in}
+use Rattle.bx_network.specs.Values.{operand_values}
 use Rattle.bx_network.proofs.Lists.{got-at}
 use Rattle.bx_layout.specs.declared.layout.Layout.{Layout}
 use Rattle.bx_layout.specs.Layouts.{Stands, edge_on, enters, leaves}
 use Rattle.bx_layout.specs.Grids.{FormGrid, form_at, node_in}
-use Rattle.bx_layout.specs.Valuations.{value_on, comes_in, is_input, reads_given, reads, sent, IsBorderValuation}
+use Rattle.bx_layout.specs.Valuations.{value_on, comes_in, is_input, reads_given, reads, sent_value, IsBorderValuation}
 use Rattle.bx_layout.specs.Permits.{PermitTest}
 use Rattle.bx_layout.specs.TileForms.{upper_sides, lower_sides, slot_of, ComesFrom, on_side, HasNodeForm, HasWireForm, HasForm}
 use Rattle.bx_layout.specs.Legal.{IsLegal}
@@ -94,7 +94,7 @@ module _ (N : Network) (permit : PermitTest) (L : Layout) (network : IsNetwork N
       (ways (edge_into N.edges v) (enters L t) (operands node.kind) (entering-spread N permit L network legal v node is t stands))
 
   tile-reads : (v t : ℕ) (node : Node) (slot : ℕ) → slice_get N.nodes v ≡ Some node → Stands L v t →
-      gives node.kind (if is_input node.kind then value_of given t ∷ [] else comes_in the_grid (carried L values) t) slot ≡ gives node.kind (node_reads_in N bits values v node) slot
+      gives node.kind (if is_input node.kind then value_of given t ∷ [] else comes_in the_grid (carried L values) t) slot ≡ gives node.kind (operand_values N bits values v node) slot
   tile-reads v t node slot is stands = elim (read-cases node.kind) [
     | inl input ↦ at_input input
     | inr (other, entered) ↦
@@ -103,7 +103,7 @@ module _ (N : Network) (permit : PermitTest) (L : Layout) (network : IsNetwork N
         ∙ sym (ap (λ xs. gives node.kind xs slot) (entered (value_of bits node.port) (values_into N.edges values v node.kind)))
   ]
     where
-      at_input : node.kind ≡ Input → gives node.kind (if is_input node.kind then value_of given t ∷ [] else comes_in the_grid (carried L values) t) slot ≡ gives node.kind (node_reads_in N bits values v node) slot
+      at_input : node.kind ≡ Input → gives node.kind (if is_input node.kind then value_of given t ∷ [] else comes_in the_grid (carried L values) t) slot ≡ gives node.kind (operand_values N bits values v node) slot
       at_input input =
           let port : HasPort N v Input node.port = is ∙ ap (λ (k : Kind). Some (port_node k)) input in
           let same = given_is v t node.port stands port in
@@ -137,7 +137,7 @@ module _ (N : Network) (permit : PermitTest) (L : Layout) (network : IsNetwork N
       let at = got-at N.edges e (leaving-is N L legal.placed t e side out) in
       let source = begins-here N permit L network legal a.v a.node a.is_node t a.stands side e at.item out at.at in
       valuation.each e at.item a.node at.at (ap (slice_get N.nodes) source ∙ a.is_node)
-      ∙ ap (λ (u : ℕ). gives a.node.kind (node_reads_in N bits values u a.node) at.item.slot) source
+      ∙ ap (λ (u : ℕ). gives a.node.kind (operand_values N bits values u a.node) at.item.slot) source
       ∙ sym (tile-reads a.v t a.node at.item.slot a.is_node a.stands)
       ∙ sym (a.form_of.sends side at.item.slot (slot-side t e at.item side out at.at) (if is_input a.node.kind then value_of given t ∷ [] else comes_in the_grid (carried L values) t))
 
@@ -164,10 +164,10 @@ module _ (N : Network) (permit : PermitTest) (L : Layout) (network : IsNetwork N
               ap (λ xs. form_sends form xs side) (comes-in t inside)
               ∙ ap (λ (u : Sides). form_sends form (used_values u (edge_value values (enters L t Left)) (edge_value values (enters L t Right))) side) (sym (form-upper N permit L network legal tiles each t form (inr b)))
 
-  border-each : (t : ℕ) (side : Side) → IsTile L.ratio t → edge_value values (leaves L t side) ≡ sent (form_at the_grid t) (reads the_grid given (carried L values) t) side
+  border-each : (t : ℕ) (side : Side) → IsTile L.ratio t → edge_value values (leaves L t side) ≡ sent_value (form_at the_grid t) (reads the_grid given (carried L values) t) side
   border-each t side inside = elim (grid-cases N permit L network legal tiles each t inside) [
-    | inl (bare, none) ↦ ap (edge_value values) (bare.out_none side) ∙ sym (ap (λ (o : Option ℕ). sent o (reads the_grid given (carried L values) t) side) none)
-    | inr (form, has, is) ↦ on form has is ∙ sym (ap (λ (o : Option ℕ). sent o (if reads_given (node_in o) then value_of given t ∷ [] else comes_in the_grid (carried L values) t) side) is)
+    | inl (bare, none) ↦ ap (edge_value values) (bare.out_none side) ∙ sym (ap (λ (o : Option ℕ). sent_value o (reads the_grid given (carried L values) t) side) none)
+    | inr (form, has, is) ↦ on form has is ∙ sym (ap (λ (o : Option ℕ). sent_value o (if reads_given (node_in o) then value_of given t ∷ [] else comes_in the_grid (carried L values) t) side) is)
   ]
     where
       on : (form : ℕ) → HasForm N L t form → form_at the_grid t ≡ Some form →

@@ -3,6 +3,7 @@ pub mod Carried
 pub mod Computing
 pub mod Edges
 pub mod Flow
+pub mod NearMisses
 pub mod OnTiles
 pub mod Permitted
 pub mod PinLists

@@ -6,9 +6,10 @@ use Rattle.bx_forms.specs.declared.kind.Kind.{Kind}
 use Rattle.bx_forms.specs.declared.side.Side.{Side}
 use Rattle.bx_forms.specs.declared.side.Side.TheVariants.{Left, Right}
 use Rattle.bx_forms.specs.declared.side.Sides.{Sides}
-use Rattle.bx_forms.specs.Forms.{IsForm, IsFormOf}
+use Rattle.bx_forms.specs.Forms.{form_count, IsForm, IsFormOf}
 use Rattle.bx_forms.specs.Kinds.{operands, slots}
 use Rattle.bx_forms.specs.Sides.{side_count}
+use Rattle.bx_forms.proofs.Lines.{is-form}
 use Rattle.bx_forms.proofs.Nodes.{one-with, some-form}
 use Rattle.bx_grid.specs.Tiles.{IsTile}
 use Rattle.bx_network.specs.declared.node.Node.{Node}
@@ -153,12 +154,12 @@ module _ (N : Network) (permit : PermitTest) (L : Layout) (network : IsNetwork N
 
   number-form : (left right : Option Side) → ComesFrom L t Left left → ComesFrom L t Right right → ((left ≡ None) × (right ≡ None)) ⊎ IsForm (number_of left right)
   number-form None None l r = inl (refl, refl)
-  number-form None (Some Left) l r = inr (let h : 5 < 28 = omega arith in h)
-  number-form None (Some Right) l r = inr (let h : 7 < 28 = omega arith in h)
-  number-form (Some Left) None l r = inr (let h : 4 < 28 = omega arith in h)
-  number-form (Some Right) None l r = inr (let h : 6 < 28 = omega arith in h)
-  number-form (Some Left) (Some Right) l r = inr (let h : 26 < 28 = omega arith in h)
-  number-form (Some Right) (Some Left) l r = inr (let h : 27 < 28 = omega arith in h)
+  number-form None (Some Left) l r = inr (is-form 5 refl)
+  number-form None (Some Right) l r = inr (is-form 7 refl)
+  number-form (Some Left) None l r = inr (is-form 4 refl)
+  number-form (Some Right) None l r = inr (is-form 6 refl)
+  number-form (Some Left) (Some Right) l r = inr (is-form 26 refl)
+  number-form (Some Right) (Some Left) l r = inr (is-form 27 refl)
   number-form (Some Left) (Some Left) l r = absurd (clash Left l r)
   number-form (Some Right) (Some Right) l r = absurd (clash Right l r)
 
@@ -264,8 +265,8 @@ module _ (N : Network) (permit : PermitTest) (L : Layout) (network : IsNetwork N
     where
       outside : (left right : Option Side) → ComesFrom L t Left left → ComesFrom L t Right right → IsWireOf (upper_sides L t) left right form → ⊥
       outside None None l r is =
-          let number : form ≡ 255 = wire-number (upper_sides L t) None None form is in
-          let low : form < 28 = is.form in
+          let number : form ≡ form_count = wire-number (upper_sides L t) None None form is in
+          let low : form < form_count = is.form in
           omega arith
       outside (Some a) right l r is = let (e, out, come) = comes-leaves L t Left a l in let none = bare.out_none Left in cc
       outside None (Some b) l r is = let (e, out, come) = comes-leaves L t Right b r in let none = bare.out_none Right in cc

@@ -9,7 +9,7 @@ use Rattle.bx_forms.specs.Forms.{form_node, form_lower, form_sends}
 use Rattle.bx_forms.specs.Sides.{is_used}
 use Rattle.bx_forms.proofs.Nodes.{node-sends}
 use Rattle.bx_layout.specs.Grids.{FormGrid, form_at, node_in}
-use Rattle.bx_layout.specs.Valuations.{reads_given, comes_in, sent}
+use Rattle.bx_layout.specs.Valuations.{reads_given, comes_in, sent_value}
 use Rattle.bx_layout.proofs.Valuations.{sent_at}
 use Rattle.bx_layout.proofs.Wires.{unused-sends}
 
@@ -25,4 +25,4 @@ pub input-sent : (g : FormGrid) (given borders : List Bool) (t form : ℕ) (valu
 input-sent g given borders t form value side is node same =
     ap (λ (b : Bool). form_sends form (b ∷ []) side) same
     ∙ sym (ap (λ (k : Option Kind). form_sends form (if reads_given k then value_of given t ∷ [] else comes_in g borders t) side) node)
-    ∙ sym (ap (λ (o : Option ℕ). sent o (if reads_given (node_in o) then value_of given t ∷ [] else comes_in g borders t) side) is)
+    ∙ sym (ap (λ (o : Option ℕ). sent_value o (if reads_given (node_in o) then value_of given t ∷ [] else comes_in g borders t) side) is)

@@ -7,7 +7,7 @@ use Rattle.bx_forms.specs.declared.kind.Kind.TheVariants.{Input, Output}
 use Rattle.bx_forms.specs.declared.side.Side.{Side}
 use Rattle.bx_forms.specs.declared.side.Side.TheVariants.{Left, Right}
 use Rattle.bx_forms.specs.declared.side.Sides.{Sides}
-use Rattle.bx_forms.specs.Forms.{IsForm, form_node, form_upper, form_lower}
+use Rattle.bx_forms.specs.Forms.{form_count, IsForm, form_node, form_upper, form_lower}
 use Rattle.bx_forms.specs.Kinds.{operands, slots}
 use Rattle.bx_forms.specs.Sides.{opposite, side_count}
 use Rattle.bx_forms.proofs.Nodes.{sides-counted}
@@ -161,7 +161,7 @@ module _ (N : Network) (permit : PermitTest) (L : Layout) (network : IsNetwork N
       input form (inr b) = absurd (sourceless b.left b.right b.from_left b.from_right (wire-number (upper_sides L t) b.left b.right form b.wire_of) b.wire_of.form)
         where
           sourceless : (left right : Option Side) → ComesFrom L t Left left → ComesFrom L t Right right → form ≡ number_of left right → IsForm form → ⊥
-          sourceless None None l r number low = let lower : form < 28 = low in omega arith
+          sourceless None None l r number low = let at : form ≡ form_count = number in let lower : form < form_count = low in omega arith
           sourceless (Some a) right l r number low = let (e, out, come) = comes-leaves L t Left a l in let none = first-none t a row in cc
           sourceless None (Some a) l r number low = let (e, out, come) = comes-leaves L t Right a r in let none = first-none t a row in cc
 
@@ -183,7 +183,7 @@ module _ (N : Network) (permit : PermitTest) (L : Layout) (network : IsNetwork N
       output form (inr b) = absurd (sourceless b.left b.right b.from_left b.from_right (wire-number (upper_sides L t) b.left b.right form b.wire_of) b.wire_of.form)
         where
           sourceless : (left right : Option Side) → ComesFrom L t Left left → ComesFrom L t Right right → form ≡ number_of left right → IsForm form → ⊥
-          sourceless None None l r number low = let lower : form < 28 = low in omega arith
+          sourceless None None l r number low = let at : form ≡ form_count = number in let lower : form < form_count = low in omega arith
           sourceless (Some a) right l r number low = let (e, out, come) = comes-leaves L t Left a l in let none = last-none t Left inside row in cc
           sourceless None (Some a) l r number low = let (e, out, come) = comes-leaves L t Right a r in let none = last-none t Right inside row in cc
 

@@ -12,11 +12,11 @@ use Rattle.bx_forms.specs.Sides.{opposite, used_values}
 use Rattle.bx_grid.specs.Tiles.{tile_count, above, border, entering}
 use Rattle.bx_grid.proofs.Neighbours.{above-less}
 use Rattle.bx_layout.specs.Grids.{FormGrid, form_at, node_in, upper_in}
-use Rattle.bx_layout.specs.Valuations.{value_on, comes_in, reads_given, reads, sent, IsBorderValuation, IsOnlyBorderValuation}
+use Rattle.bx_layout.specs.Valuations.{value_on, comes_in, reads_given, reads, sent_value, IsBorderValuation, IsOnlyBorderValuation}
 
 -- what goes out of a tile on a lower side
 abbrev pub sent_at : FormGrid → List Bool → List Bool → ℕ → Side → Bool
-sent_at g given borders t side = sent (form_at g t) (reads g given borders t) side
+sent_at g given borders t side = sent_value (form_at g t) (reads g given borders t) side
 
 -- the two lists have the same first n values
 abbrev pub AgreeBelow : ℕ → List Bool → List Bool → Type 0
@@ -42,7 +42,7 @@ comes_in-local g bs cs t agree =
 pub sent-local : (g : FormGrid) (given bs cs : List Bool) (t : ℕ) (side : Side) → AgreeBelow (2 * t) bs cs →
     sent_at g given bs t side ≡ sent_at g given cs t side
 sent-local g given bs cs t side agree =
-    ap (λ (ins : List Bool). sent (form_at g t) (if reads_given (node_in (form_at g t)) then value_of given t ∷ [] else ins) side) (comes_in-local g bs cs t agree)
+    ap (λ (ins : List Bool). sent_value (form_at g t) (if reads_given (node_in (form_at g t)) then value_of given t ∷ [] else ins) side) (comes_in-local g bs cs t agree)
 
 -- the values of the borders of the first n tiles
 pub made : FormGrid → List Bool → ℕ → List Bool

@@ -5,9 +5,9 @@ use Rattle.bx_forms.specs.declared.side.Side.{Side}
 use Rattle.bx_forms.specs.declared.side.Side.TheVariants.{Left, Right}
 use Rattle.bx_forms.specs.declared.side.Sides.{Sides}
 use Rattle.bx_forms.specs.declared.table.Shape.{Shape}
-use Rattle.bx_forms.specs.Forms.{IsForm, shape_of, shape_lower, shape_sends, form_node, form_upper, form_lower, form_sends, form_value, function_value}
+use Rattle.bx_forms.specs.Forms.{form_count, IsForm, shape_of, shape_lower, shape_sends, form_node, form_upper, form_lower, form_sends, form_value, function_value}
 use Rattle.bx_forms.specs.Sides.{is_used, used_values}
-use Rattle.bx_forms.proofs.Lines.{AllFrom, from-all}
+use Rattle.bx_forms.proofs.Lines.{AllForms, at-form}
 use Rattle.bx_layout.specs.TileForms.{on_side, upper_from, IsWireOf}
 
 -- nothing is sent out on a side that a form doesn't use
@@ -20,15 +20,15 @@ unused-sends form reads side e = unused-shape (shape_of form) reads side e
 
 -- the number of the wire, and one that no form has where there is none
 abbrev pub number_of : Option Side → Option Side → ℕ
-number_of None None = 255
+number_of None None = form_count
 number_of None (Some Left) = 5
 number_of None (Some Right) = 7
 number_of (Some Left) None = 4
-number_of (Some Left) (Some Left) = 255
+number_of (Some Left) (Some Left) = form_count
 number_of (Some Left) (Some Right) = 26
 number_of (Some Right) None = 6
 number_of (Some Right) (Some Left) = 27
-number_of (Some Right) (Some Right) = 255
+number_of (Some Right) (Some Right) = form_count
 
 -- the upper side from which a lower one has its value, by what goes out there where the left one alone is
 -- true, and where the right one alone is
@@ -44,7 +44,7 @@ from_at form side = from_of (form_value form true false side) (form_value form f
 LineIsWire : ℕ → Type 0
 LineIsWire form = MatchOption (form_node form) (form ≡ number_of (from_at form Left) (from_at form Right)) (λ kind. Unit {0})
 
-lines-wires : AllFrom LineIsWire 0 28
+lines-wires : AllForms LineIsWire
 unfolding LineIsWire
 lines-wires =
     (tt, (tt, (tt, (tt, (refl, (refl, (refl, (refl, (tt, (tt, (tt, (tt, (tt, (tt, (tt, (tt, (tt, (tt, (tt, (tt, (tt, (tt, (tt, (tt, (tt, (tt, (refl, (refl, tt))))))))))))))))))))))))))))
@@ -52,7 +52,7 @@ lines-wires =
 wire-line : (form : ℕ) → IsForm form → form_node form ≡ None → form ≡ number_of (from_at form Left) (from_at form Right)
 unfolding LineIsWire
 wire-line form inside node =
-    let line : LineIsWire form = from-all LineIsWire 0 28 lines-wires form (omega arith) (let l : form < 28 = inside in omega arith) in
+    let line : LineIsWire form = at-form LineIsWire lines-wires form inside in
     subst (λ (o : Option _). MatchOption o (form ≡ number_of (from_at form Left) (from_at form Right)) (λ kind. Unit {0})) node line
 
 from_of-side : (from : Side) → from_of (on_side true false from) (on_side false true from) ≡ Some from
@@ -74,66 +74,37 @@ wire-number upper left right form is =
     (from-told form Left left (ap (λ sides. is_used sides Left) is.lower_sides) (λ s e. is.sends Left s e))
     (from-told form Right right (ap (λ sides. is_used sides Right) is.lower_sides) (λ s e. is.sends Right s e))
 
--- what is sent out, side by side
-sends-both : (form : ℕ) (left right : Option Side) → ((s : Side) → left ≡ Some s → (a b : Bool) → form_value form a b Left ≡ on_side a b s) →
-    ((s : Side) → right ≡ Some s → (a b : Bool) → form_value form a b Right ≡ on_side a b s) →
-    (side s : Side) → on_side left right side ≡ Some s → (a b : Bool) → form_value form a b side ≡ on_side a b s
-sends-both form left right l r Left s e = l s e
-sends-both form left right l r Right s e = r s e
+Sends : ℕ → Side → Option Side → Type 0
+Sends form side from = (s : Side) → from ≡ Some s → (a b : Bool) → form_value form a b side ≡ on_side a b s
 
-never : (form : ℕ) (side s : Side) → None ≡ Some s → (a b : Bool) → form_value form a b side ≡ on_side a b s
+-- a wire, by what it sends out on each side
+wire-at : (left right : Option Side) (form : ℕ) → IsForm form → form_node form ≡ None → form_upper form ≡ upper_from left right → form_lower form ≡ record { left = is_some left; right = is_some right } →
+    Sends form Left left → Sends form Right right → IsWireOf (upper_from left right) left right form
+unfolding Sends
+wire-at left right form inside node upper lower l r = record { form = inside; holds_none = node; upper_sides = upper; lower_sides = lower; sends = on }
+  where
+    on : (side s : Side) → on_side left right side ≡ Some s → (a b : Bool) → form_value form a b side ≡ on_side a b s
+    on Left s e = l s e
+    on Right s e = r s e
+
+never : (form : ℕ) (side : Side) → Sends form side None
+unfolding Sends
 never form side s e a b = absurd (cc)
 
-always : (form : ℕ) (side from : Side) → ((a b : Bool) → form_value form a b side ≡ on_side a b from) →
-    (s : Side) → Some from ≡ Some s → (a b : Bool) → form_value form a b side ≡ on_side a b s
+always : (form : ℕ) (side from : Side) → ((a b : Bool) → form_value form a b side ≡ on_side a b from) → Sends form side (Some from)
+unfolding Sends
 always form side from h s e a b = let same : from ≡ s = cc in h a b ∙ ap (on_side a b) same
 
 pub number-wire : (left right : Option Side) → IsForm (number_of left right) → IsWireOf (upper_from left right) left right (number_of left right)
-number-wire None None h = absurd (let l : 255 < 28 = h in omega arith)
-number-wire (Some Left) (Some Left) h = absurd (let l : 255 < 28 = h in omega arith)
-number-wire (Some Right) (Some Right) h = absurd (let l : 255 < 28 = h in omega arith)
-number-wire (Some Left) None h = record {
-  form = h;
-  holds_none = refl;
-  upper_sides = refl;
-  lower_sides = refl;
-  sends = sends-both 4 (Some Left) None (always 4 Left Left (λ a b. refl)) (never 4 Right);
-}
-number-wire None (Some Left) h = record {
-  form = h;
-  holds_none = refl;
-  upper_sides = refl;
-  lower_sides = refl;
-  sends = sends-both 5 None (Some Left) (never 5 Left) (always 5 Right Left (λ a b. refl));
-}
-number-wire (Some Right) None h = record {
-  form = h;
-  holds_none = refl;
-  upper_sides = refl;
-  lower_sides = refl;
-  sends = sends-both 6 (Some Right) None (always 6 Left Right (λ a b. refl)) (never 6 Right);
-}
-number-wire None (Some Right) h = record {
-  form = h;
-  holds_none = refl;
-  upper_sides = refl;
-  lower_sides = refl;
-  sends = sends-both 7 None (Some Right) (never 7 Left) (always 7 Right Right (λ a b. refl));
-}
-number-wire (Some Left) (Some Right) h = record {
-  form = h;
-  holds_none = refl;
-  upper_sides = refl;
-  lower_sides = refl;
-  sends = sends-both 26 (Some Left) (Some Right) (always 26 Left Left (λ a b. refl)) (always 26 Right Right (λ a b. refl));
-}
-number-wire (Some Right) (Some Left) h = record {
-  form = h;
-  holds_none = refl;
-  upper_sides = refl;
-  lower_sides = refl;
-  sends = sends-both 27 (Some Right) (Some Left) (always 27 Left Right (λ a b. refl)) (always 27 Right Left (λ a b. refl));
-}
+number-wire None None h = absurd (let l : form_count < form_count = h in omega arith)
+number-wire (Some Left) (Some Left) h = absurd (let l : form_count < form_count = h in omega arith)
+number-wire (Some Right) (Some Right) h = absurd (let l : form_count < form_count = h in omega arith)
+number-wire (Some Left) None h = wire-at (Some Left) None 4 h refl refl refl (always 4 Left Left (λ a b. refl)) (never 4 Right)
+number-wire None (Some Left) h = wire-at None (Some Left) 5 h refl refl refl (never 5 Left) (always 5 Right Left (λ a b. refl))
+number-wire (Some Right) None h = wire-at (Some Right) None 6 h refl refl refl (always 6 Left Right (λ a b. refl)) (never 6 Right)
+number-wire None (Some Right) h = wire-at None (Some Right) 7 h refl refl refl (never 7 Left) (always 7 Right Right (λ a b. refl))
+number-wire (Some Left) (Some Right) h = wire-at (Some Left) (Some Right) 26 h refl refl refl (always 26 Left Left (λ a b. refl)) (always 26 Right Right (λ a b. refl))
+number-wire (Some Right) (Some Left) h = wire-at (Some Right) (Some Left) 27 h refl refl refl (always 27 Left Right (λ a b. refl)) (always 27 Right Left (λ a b. refl))
 
 pub wires : (left right : Option Side) (form : ℕ) → IsWireOf (upper_from left right) left right form ↔ (IsForm form × (form ≡ number_of left right))
 wires left right form = (
@@ -175,7 +146,7 @@ unwired left right l r form = (
   (λ e. absurd (cc)),
   (λ is.
       let (inside, e) = (wires left right form).0 is in
-      let at : form ≡ 255 = e ∙ ap₂ number_of l r in
-      let low : form < 28 = inside in
+      let at : form ≡ form_count = e ∙ ap₂ number_of l r in
+      let low : form < form_count = inside in
       absurd (omega arith)),
 )

@@ -36,7 +36,8 @@ abbrev pub lower_in : Option ℕ → Sides
 lower_in None = record { left = false; right = false }
 lower_in (Some form) = form_lower form
 
--- whether something comes in on this upper side of a tile, and whether something goes out on this lower side
+-- whether something comes in on this upper side of a tile, and whether something goes out on this
+-- lower side
 abbrev pub takes : FormGrid → ℕ → Side → Bool
 takes g t side = is_used (upper_in (form_at g t)) side
 
@@ -47,6 +48,10 @@ sends g t side = is_used (lower_in (form_at g t)) side
 abbrev pub sends_from : FormGrid → Option ℕ → Side → Bool
 sends_from g None side = false
 sends_from g (Some t) side = sends g t side
+
+-- whether the tile above an upper side of a tile goes out to it
+abbrev pub goes_to : FormGrid → ℕ → Side → Bool
+goes_to g t side = sends_from g (above g.ratio t side) (opposite side)
 
 -- the form on the tile holds a node of this kind
 abbrev pub Holds : FormGrid → ℕ → Kind → Type 0
@@ -65,7 +70,7 @@ pub record StandsInItsRow (g : FormGrid) (t : ℕ) : Type 0 where
 -- what has to hold of a tile for the grid to be sound
 pub record IsSoundAt (g : FormGrid) (t : ℕ) : Type 0 where
   -- it takes on exactly those upper sides on which the tile above goes out
-  pub meets : (side : Side) → takes g t side ≡ sends_from g (above g.ratio t side) (opposite side)
+  pub meets : (side : Side) → takes g t side ≡ goes_to g t side
   -- nothing leads off the grid
   pub stays : (side : Side) → IsTrue (sends g t side) → IsSome (below g.ratio t side)
   pub row : StandsInItsRow g t

@@ -29,6 +29,13 @@ leaves L t side = edge_on L (border t side)
 abbrev pub Carries : Layout → ℕ → Side → ℕ → Type 0
 Carries L t side e = (enters L t side ≡ Some e) ⊎ (leaves L t side ≡ Some e)
 
+-- a node stands on the tile, or it carries an edge
+abbrev pub IsUsed : Layout → ℕ → Type 0
+IsUsed L t = ((v : ℕ) × Stands L v t) ⊎ ((side : Side) × (e : ℕ) × Carries L t side e)
+
+abbrev pub CarriesNothing : Layout → ℕ → Type 0
+CarriesNothing L t = (side : Side) (e : ℕ) → Carries L t side e → ⊥
+
 -- 1 if the one is this number, and 0 otherwise
 abbrev pub one_if_is : Option ℕ → ℕ → ℕ
 one_if_is None n = 0
@@ -41,6 +48,6 @@ ways_in L t e = one_if_is (enters L t Left) e + one_if_is (enters L t Right) e
 abbrev pub ways_out : Layout → ℕ → ℕ → ℕ
 ways_out L t e = one_if_is (leaves L t Left) e + one_if_is (leaves L t Right) e
 
--- 1 if tile t holds node v, and 0 otherwise
-abbrev pub held : Layout → ℕ → ℕ → ℕ
-held L t v = one_if_is (slice_get L.places v) t
+-- 1 if node v stands on tile t, and 0 otherwise
+abbrev pub stands_count : Layout → ℕ → ℕ → ℕ
+stands_count L t v = one_if_is (slice_get L.places v) t

@@ -6,3 +6,4 @@ pub mod TileForms
 pub mod Permits
 pub mod Legal
 pub mod Ways
+pub mod Examples

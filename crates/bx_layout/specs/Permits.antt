@@ -9,7 +9,8 @@ PermitTest = Ratio → ℕ → ℕ → Bool
 abbrev pub Allows : PermitTest → Ratio → ℕ → ℕ → Type 0
 Allows permit ratio t form = IsTrue (permit ratio t form)
 
--- the permit of the same forms on all tiles, told as a list that says of each form in turn whether it may stand
+-- the permit of the same forms on all tiles, told as a list that says of each form in turn whether
+-- it may stand
 abbrev pub test_of : List Bool → PermitTest
 test_of forms ratio t form = slice_index_or forms form false
 
@@ -19,4 +20,5 @@ all_forms ratio t form = true
 
 -- what the one allows the other allows too
 abbrev pub IsWider : PermitTest → PermitTest → Type 0
-IsWider permit wider = (ratio : Ratio) (t form : ℕ) → Allows permit ratio t form → Allows wider ratio t form
+IsWider permit wider =
+    (ratio : Ratio) (t form : ℕ) → Allows permit ratio t form → Allows wider ratio t form

@@ -1,5 +1,5 @@
--- Pins: which tiles of a form grid stand for the inputs and outputs of a network, and so what behaviour the
--- grid has, and when it computes the network.
+-- Pins: which tiles of a form grid stand for the inputs and outputs of a network, and so what
+-- behaviour the grid has, and when it computes the network.
 use Rattle.std.specs.Prelude.{◌≡◌, ◌==◌, ◌↔◌, ℕ, Bool, false, if◌then◌else◌, List, [], ◌∷◌, ◌++◌, length, map, Contains}
 use Rattle.std.specs.List.{range_with_len}
 use Rattle.bx_logic.specs.Op.{first_value}
@@ -37,33 +37,40 @@ pub record AreForPorts (N : Network) (kind : Kind) (pins : List Pin) : Type 0 wh
   pub once : AreDistinct (pin_ports pins)
 
 pub record ArePins (g : FormGrid) (N : Network) (pins : Pins) : Type 0 where
-  -- one tile of the first row for each input of the network, and one of the last row for each output
+  -- one tile of the first row for each input of the network, and one of the last row for each
+  -- output
   pub inputs : AreForPorts N Input pins.inputs
   pub outputs : AreForPorts N Output pins.outputs
-  pub first : (t : ℕ) → Contains (pin_tiles pins.inputs) t → IsTile g.ratio t × IsInFirstRow g.ratio t × Holds g t Input
-  pub last : (t : ℕ) → Contains (pin_tiles pins.outputs) t → IsTile g.ratio t × IsInLastRow g.ratio t × Holds g t Output
+  pub first : (t : ℕ) → Contains (pin_tiles pins.inputs) t →
+      IsTile g.ratio t × IsInFirstRow g.ratio t × Holds g t Input
+  pub last : (t : ℕ) → Contains (pin_tiles pins.outputs) t →
+      IsTile g.ratio t × IsInLastRow g.ratio t × Holds g t Output
   pub apart : AreDistinct (pin_tiles pins.inputs ++ pin_tiles pins.outputs)
   -- no other tile holds an input or an output form
-  pub no_more_inputs : (t : ℕ) → IsTile g.ratio t → Holds g t Input → Contains (pin_tiles pins.inputs) t
-  pub no_more_outputs : (t : ℕ) → IsTile g.ratio t → Holds g t Output → Contains (pin_tiles pins.outputs) t
+  pub no_more_inputs : (t : ℕ) → IsTile g.ratio t → Holds g t Input →
+      Contains (pin_tiles pins.inputs) t
+  pub no_more_outputs : (t : ℕ) → IsTile g.ratio t → Holds g t Output →
+      Contains (pin_tiles pins.outputs) t
 
 -- the value of the port whose pin is this tile
 abbrev pub given_at : List Pin → List Bool → ℕ → Bool
 given_at [] bits t = false
-given_at (pin ∷ pins) bits t = if t == pin.tile then value_of bits pin.port else given_at pins bits t
+given_at (pin ∷ pins) bits t =
+    if t == pin.tile then value_of bits pin.port else given_at pins bits t
 
 -- what is given to the tiles of the first row
 abbrev pub given_to : FormGrid → Pins → List Bool → List Bool
 given_to g pins bits = map (given_at pins.inputs bits) (range_with_len 0 g.ratio.w)
 
--- of so many inputs each has a value, and each output has the value that its tile reads in the one valuation
--- of the borders
+-- of so many inputs each has a value, and each output has the value that its tile reads in the one
+-- valuation of the borders
 pub record GridGives (inputs : ℕ) (g : FormGrid) (pins : Pins) (bits outputs : List Bool) : Type 0 where
   pub given : length bits ≡ inputs
   pub borders : List Bool
   pub valuation : IsOnlyBorderValuation g (given_to g pins bits) borders
   pub all : length outputs ≡ length pins.outputs
-  pub read : (pin : Pin) → Contains pins.outputs pin → value_of outputs pin.port ≡ first_value (comes_in g borders pin.tile)
+  pub read : (pin : Pin) → Contains pins.outputs pin →
+      value_of outputs pin.port ≡ first_value (comes_in g borders pin.tile)
 
 -- a grid's behaviour by the ports of its pins, where there are so many inputs
 abbrev pub grid_behaviour : ℕ → FormGrid → Pins → Behaviour
@@ -74,12 +81,14 @@ pub record Computes (inputs : ℕ) (g : FormGrid) (pins : Pins) (N : Network) : 
   pub pins_fit : ArePins g N pins
   pub same : SameBehaviour (grid_behaviour inputs g pins) (network_behaviour inputs N)
 
--- the ports of the nodes that pass the test, and the tiles on which they stand, in the order of the nodes
+-- the ports of the nodes that pass the test, and the tiles on which they stand, in the order of the
+-- nodes
 abbrev pub pins_at : (Kind → Bool) → List Node → List ℕ → List Pin
 pins_at test [] tiles = []
 pins_at test (node ∷ nodes) [] = []
 pins_at test (node ∷ nodes) (tile ∷ tiles) =
-    if test node.kind then (record { port = node.port; tile = tile }) ∷ pins_at test nodes tiles else pins_at test nodes tiles
+    if test node.kind then (record { port = node.port; tile = tile }) ∷ pins_at test nodes tiles
+    else pins_at test nodes tiles
 
 -- the pins of a network where its nodes stand
 abbrev pub pins_of : Network → Layout → Pins

@@ -1,5 +1,5 @@
-//! The values of the borders of a form grid, row by row, and what an output reads of them. A grid has one
-//! valuation, sound or not; what it means is for the layers above to say.
+//! The values of the borders of a form grid, row by row, and what an output reads of them. A grid
+//! has one valuation, sound or not; what it means is for the layers above to say.
 ghost use Rattle.std.specs.Prelude.{◌≡◌, ◌*◌, length, [], ◌∷◌, Some};
 ghost use Rattle.bx_forms.specs.Forms.{form_node, form_sends};
 ghost use Rattle.bx_logic.specs.Op.{first_value};
@@ -7,15 +7,15 @@ ghost use Rattle.bx_forms.specs.declared.kind.Kind.TheVariants.{Input};
 ghost use Rattle.bx_forms.specs.declared.side.Side.TheVariants.{Left, Right};
 ghost use Rattle.bx_grid.specs.Tiles.{tile_count, IsTile, entering as border_in};
 ghost use Rattle.bx_layout.specs.Grids.{form_at};
-ghost use Rattle.bx_layout.specs.Valuations.{value_on, comes_in, reads, sent as sent_of, IsOnlyBorderValuation};
+ghost use Rattle.bx_layout.specs.Valuations.{value_on, comes_in, reads, sent_value as sent_value_of, IsOnlyBorderValuation};
 
 use crate::grid::FormGrid;
 use crate::sides::is_used;
 use bx_forms::{Form, Kind, Side};
 use bx_grid::{border, entering};
 
-/// Fills in the value of each border, where the tiles of the first row are given these values. The values
-/// that stood there before don't matter. Takes no memory.
+/// Fills in the value of each border, where the tiles of the first row are given these values. The
+/// values that stood there before don't matter. Takes no memory.
 pub fn eval_grid(grid: &FormGrid, given: &[bool], borders: &mut [bool])
     requires given { length given.now ≡ grid.now.ratio.w }
     requires borders { length borders.old ≡ 2 * tile_count grid.now.ratio }
@@ -29,7 +29,8 @@ pub fn eval_grid(grid: &FormGrid, given: &[bool], borders: &mut [bool])
     }
 }
 
-/// The value that an output on this tile reads, where the borders have these values. Takes no memory.
+/// The value that an output on this tile reads, where the borders have these values. Takes no
+/// memory.
 pub fn out_value(grid: &FormGrid, borders: &[bool], tile: u32) -> bool
     requires borders { length borders.now ≡ 2 * tile_count grid.now.ratio }
     requires tile { IsTile grid.now.ratio tile }
@@ -54,8 +55,10 @@ pub fn out_value(grid: &FormGrid, borders: &[bool], tile: u32) -> bool
 fn sent(grid: &FormGrid, given: &[bool], borders: &[bool], tile: u32) -> (bool, bool)
     requires borders { length borders.now ≡ 2 * tile_count grid.now.ratio }
     requires tile { IsTile grid.now.ratio tile }
-    ensures left { result.0 ≡ sent_of (form_at grid.now tile) (reads grid.now given.now borders.now tile) Left }
-    ensures right { result.1 ≡ sent_of (form_at grid.now tile) (reads grid.now given.now borders.now tile) Right }
+    ensures left { result.0 ≡
+        sent_value_of (form_at grid.now tile) (reads grid.now given.now borders.now tile) Left }
+    ensures right { result.1 ≡
+        sent_value_of (form_at grid.now tile) (reads grid.now given.now borders.now tile) Right }
 {
     let Some(form) = grid.tile(tile) else {
         return (false, false);

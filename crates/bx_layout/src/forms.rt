@@ -1,5 +1,5 @@
-//! The form grid of a legal layout. It is sound, and with the pins where the nodes stand it computes the
-//! network.
+//! The form grid of a legal layout. It is sound, and with the pins where the nodes stand it
+//! computes the network.
 ghost use Rattle.std.specs.Prelude.{◌≡◌, ◌<◌, ℕ, IfOk};
 ghost use Rattle.bx_layout.specs.Grids.{IsSound};
 ghost use Rattle.bx_layout.specs.Permits.{all_forms};
@@ -23,7 +23,8 @@ pub fn form_grid(alloc: Global, net: &MappedNet, layout: &Layout) -> Result<Form
     requires { IsLegal net.now all_forms layout.now }
     ensures forms { IfOk result (IsFormGridOf net.now layout.now) }
     ensures sound { IfOk result IsSound }
-    ensures computes { IfOk result (λ grid. (inputs : ℕ) → Computes inputs grid (pins_of net.now layout.now) net.now) }
+    ensures computes { IfOk result (λ grid. (inputs : ℕ) →
+        Computes inputs grid (pins_of net.now layout.now) net.now) }
 {
     let ratio = layout.ratio;
     let mut tiles = Vec::with_capacity(alloc, ratio.w as usize * ratio.h as usize)?;

@@ -1,5 +1,5 @@
-//! Form grids as data: a form, or nothing, on each tile. What such a grid promises is for the definitions
-//! to say; it may be unsound.
+//! Form grids as data: a form, or nothing, on each tile. What such a grid promises is for the
+//! definitions to say; it may be unsound.
 ghost use Rattle.std.specs.Prelude.{◌≡◌, ◌<◌, vec_len, slice_index_or};
 ghost use Rattle.bx_grid.specs.Tiles.{tile_count, IsGrid, IsTile, row_items};
 ghost use Rattle.bx_layout.specs.Grids.{form_at};
@@ -8,8 +8,8 @@ use bx_forms::Form;
 use bx_grid::Ratio;
 use std::marker::Model;
 
-/// A grid with a form, or nothing, on each tile. Contracts see it as the record of its ratio and the
-/// list of its tiles, row by row.
+/// A grid with a form, or nothing, on each tile. Contracts see it as the record of its ratio and
+/// the list of its tiles, row by row.
 #[derive(Drop)]
 pub struct FormGrid {
     ratio: Ratio,

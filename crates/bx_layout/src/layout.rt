@@ -1,5 +1,5 @@
-//! Layouts as data: a tile for each node, and for each border the edge that it carries, if any. Nothing
-//! here is checked: whether a layout is legal is for the definitions to say.
+//! Layouts as data: a tile for each node, and for each border the edge that it carries, if any.
+//! Nothing here is checked: whether a layout is legal is for the definitions to say.
 ghost use Rattle.std.specs.Prelude.{◌≡◌, ℕ, List, Option};
 
 use bx_grid::Ratio;
@@ -43,7 +43,8 @@ impl Places {
     }
 }
 
-/// The edge on each border of a grid, or none, by the border's number. Contracts see it as this list.
+/// The edge on each border of a grid, or none, by the border's number. Contracts see it as this
+/// list.
 #[derive(Drop)]
 pub struct Borders {
     edges: Vec<Option<u32>>,

@@ -1,11 +1,11 @@
-//! Whether a layout is legal: the six conditions one after the other, each tile and each edge looked at a
-//! constant number of times for each other.
+//! Whether a layout is legal: the six conditions one after the other, each tile and each edge
+//! looked at a constant number of times for each other.
 ghost use Rattle.std.specs.Prelude.{◌≡◌, ◌↔◌, ◌⊎◌, ◌<◌, ◌≤◌, ◌*◌, ◌^◌, ℕ, List, Option, Some, None, IsSome, IfSome, IsTrue, length, slice_get, slice_index_or};
 ghost use Rattle.bx_forms.specs.declared.side.Side.{Side};
 ghost use Rattle.bx_grid.specs.declared.ratio.Ratio.{Ratio};
 ghost use Rattle.bx_grid.specs.Tiles.{tile_count, IsGrid, IsTile, below as tile_below};
 ghost use Rattle.bx_network.specs.declared.node.Edge.{Edge};
-ghost use Rattle.bx_layout.specs.Layouts.{one_if_is as one_of, ways_in as ways_in_of, ways_out as ways_out_of, held as held_of, leaves as leaves_of};
+ghost use Rattle.bx_layout.specs.Layouts.{one_if_is as one_of, ways_in as ways_in_of, ways_out as ways_out_of, stands_count as stands_count_of, leaves as leaves_of};
 ghost use Rattle.bx_layout.specs.Permits.{Allows, all_forms, test_of};
 ghost use Rattle.bx_layout.specs.TileForms.{HasForm};
 ghost use Rattle.bx_layout.specs.Legal.{IsPlaced, StandsAtItsEnd, HasItsEnds, StaysOnGrid, IsBalancedAt, IsBalanced, IsOf, IsAloneOn, IsAlone, NodesAreAlone, IsPermitted, IsLegal};
@@ -15,12 +15,12 @@ use crate::layout::Layout;
 use crate::permit::Permit;
 use crate::tile_form::tile_form;
 use bx_forms::{Kind, Side};
-use bx_grid::{MOST_TILES, Ratio, below};
+use bx_grid::{MOST_TILES, Ratio, below, column_and_row};
 use bx_network::{Edge, MappedNet};
 
-/// Whether the layout is legal: each node on a tile of its own, inputs in the first row and outputs in the
-/// last, each edge on a way of borders from its source to its target, and each form permitted. Takes no
-/// memory.
+/// Whether the layout is legal: each node on a tile of its own, inputs in the first row and outputs
+/// in the last, each edge on a way of borders from its source to its target, and each form
+/// permitted. Takes no memory.
 pub fn is_legal(net: &MappedNet, permit: &Permit, layout: &Layout) -> bool
     ensures { IsTrue result ↔ IsLegal net.now (test_of permit.now) layout.now }
 {
@@ -86,7 +86,8 @@ fn are_tiles(places: &[u32], count: u32) -> bool
 
 // Whether no two of these are the same.
 fn are_apart(places: &[u32]) -> bool
-    ensures { IsTrue result ↔ ((u v t : ℕ) → slice_get places.now u ≡ Some t → slice_get places.now v ≡ Some t → u ≡ v) }
+    ensures { IsTrue result ↔
+        ((u v t : ℕ) → slice_get places.now u ≡ Some t → slice_get places.now v ≡ Some t → u ≡ v) }
 {
     for v in 0..places.len() {
         if places[..v].contains(&places[v]) {
@@ -117,7 +118,7 @@ fn stands_at_its_end(kind: Kind, ratio: Ratio, tile: u32) -> bool
     requires tile { IsTile ratio tile }
     ensures { IsTrue result ↔ StandsAtItsEnd kind ratio tile }
 {
-    let row = tile / ratio.w;
+    let (_, row) = column_and_row(ratio, tile);
     match kind {
         Kind::Input => row == 0,
         Kind::Output => row + 1 == ratio.h,
@@ -142,7 +143,8 @@ fn stays_on_grid(layout: &Layout) -> bool
 fn leads_off(layout: &Layout, tile: u32, side: Side) -> bool
     requires grid { IsGrid layout.now.ratio }
     requires tile { IsTile layout.now.ratio tile }
-    ensures { IsTrue result ↔ ((tile_below layout.now.ratio tile side ≡ None) × IsSome (leaves_of layout.now tile side)) }
+    ensures { IsTrue result ↔
+        ((tile_below layout.now.ratio tile side ≡ None) × IsSome (leaves_of layout.now tile side)) }
 {
     below(layout.ratio, tile, side).is_none() && leaves(layout, tile, side).is_some()
 }
@@ -166,7 +168,9 @@ fn is_balanced_on(net: &MappedNet, layout: &Layout, tile: u32) -> bool
     requires grid { IsGrid layout.now.ratio }
     requires placed { IsPlaced net.now layout.now }
     requires tile { IsTile layout.now.ratio tile }
-    ensures { IsTrue result ↔ ((e : ℕ) (edge : Edge) → slice_get net.now.edges e ≡ Some edge → IsBalancedAt layout.now tile e edge) }
+    ensures { IsTrue result ↔
+        ((e : ℕ) (edge : Edge) → slice_get net.now.edges e ≡ Some edge →
+        IsBalancedAt layout.now tile e edge) }
 {
     for e in 0..net.edge_count() {
         let edge = net.edge(e);
@@ -182,8 +186,8 @@ fn is_balanced_at(layout: &Layout, tile: u32, e: u32, edge: Edge) -> bool
     requires tile { IsTile layout.now.ratio tile }
     ensures { IsTrue result ↔ IsBalancedAt layout.now tile e edge }
 {
-    let before = ways_in(layout, tile, e) + held(layout, tile, edge.source);
-    let after = ways_out(layout, tile, e) + held(layout, tile, edge.target);
+    let before = ways_in(layout, tile, e) + stands_count(layout, tile, edge.source);
+    let after = ways_out(layout, tile, e) + stands_count(layout, tile, edge.target);
     before == after && before <= 1
 }
 
@@ -205,8 +209,8 @@ fn ways_out(layout: &Layout, tile: u32, e: u32) -> u8
     one_if_is(leaves(layout, tile, Side::Left), e) + one_if_is(leaves(layout, tile, Side::Right), e)
 }
 
-fn held(layout: &Layout, tile: u32, v: u32) -> u8
-    ensures is { result ≡ held_of layout.now tile v }
+fn stands_count(layout: &Layout, tile: u32, v: u32) -> u8
+    ensures is { result ≡ stands_count_of layout.now tile v }
     ensures few { result ≤ 1 }
 {
     let place = layout.places.as_slice().get(v as usize).copied();
@@ -261,7 +265,8 @@ fn is_alone_on(net: &MappedNet, layout: &Layout, v: u32, tile: u32, side: Side) 
 // Whether there is no edge, or one that begins or ends at this node.
 fn is_own(net: &MappedNet, v: u32, edge: Option<u32>) -> bool
     requires { IfSome edge (λ e. e < length net.now.edges) }
-    ensures { IsTrue result ↔ ((e : ℕ) (own : Edge) → edge ≡ Some e → slice_get net.now.edges e ≡ Some own → IsOf own v) }
+    ensures { IsTrue result ↔
+        ((e : ℕ) (own : Edge) → edge ≡ Some e → slice_get net.now.edges e ≡ Some own → IsOf own v) }
 {
     match edge {
         None => true,
@@ -289,7 +294,9 @@ fn is_permitted(net: &MappedNet, permit: &Permit, layout: &Layout) -> bool
 fn is_permitted_on(net: &MappedNet, permit: &Permit, layout: &Layout, tile: u32) -> bool
     requires legal { IsLegal net.now all_forms layout.now }
     requires tile { IsTile layout.now.ratio tile }
-    ensures { IsTrue result ↔ ((form : ℕ) → HasForm net.now layout.now tile form → Allows (test_of permit.now) layout.now.ratio tile form) }
+    ensures { IsTrue result ↔
+        ((form : ℕ) → HasForm net.now layout.now tile form →
+        Allows (test_of permit.now) layout.now.ratio tile form) }
 {
     match tile_form(net, layout, tile) {
         None => true,

@@ -1,6 +1,7 @@
-//! Layouts of mapped networks on a grid, and the form grids that they give. A legal layout stands for a
-//! grid of forms that is sound and computes the network; what a form is, where a tile stands and what a
-//! network is are the business of the crates below, and how a layout is found that of those above.
+//! Layouts of mapped networks on a grid, and the form grids that they give. A legal layout stands
+//! for a grid of forms that is sound and computes the network; what a form is, where a tile stands
+//! and what a network is are the business of the crates below, and how a layout is found that of
+//! those above.
 #![tactic(auto)]
 
 mod around;

@@ -8,8 +8,8 @@ use bx_forms::{Form, FormSet};
 use bx_grid::Ratio;
 use std::marker::Model;
 
-/// Says of each tile of a grid of any ratio which forms may stand there. Contracts see it as the list that
-/// says of each form in turn whether it may.
+/// Says of each tile of a grid of any ratio which forms may stand there. Contracts see it as the
+/// list that says of each form in turn whether it may.
 #[derive(Clone, Copy)]
 pub struct Permit {
     forms: FormSet,
@@ -28,7 +28,8 @@ impl Model for Permit {
 impl Permit {
     /// The permit of the same forms on all tiles. Takes no memory.
     pub fn same(forms: FormSet) -> Permit
-        ensures { (ratio : Ratio) (t form : ℕ) → Allows (test_of result) ratio t form ↔ IsIn forms form }
+        ensures { (ratio : Ratio) (t form : ℕ) →
+            Allows (test_of result) ratio t form ↔ IsIn forms form }
     {
         Permit { forms }
     }

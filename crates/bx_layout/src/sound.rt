@@ -1,16 +1,16 @@
 //! Whether a form grid is sound, tile by tile.
 ghost use Rattle.std.specs.Prelude.{◌≡◌, ◌↔◌, IsTrue, IsSome};
-ghost use Rattle.bx_forms.specs.Sides.{opposite as opposite_of};
-ghost use Rattle.bx_grid.specs.Tiles.{IsTile, above as tile_above, below as tile_below};
-ghost use Rattle.bx_layout.specs.Grids.{takes as takes_of, sends as sends_of, sends_from, StandsInItsRow, IsSoundAt, IsSound};
+ghost use Rattle.bx_grid.specs.Tiles.{IsTile, below as tile_below};
+ghost use Rattle.bx_layout.specs.Grids.{takes as takes_of, sends as sends_of, goes_to, StandsInItsRow, IsSoundAt, IsSound};
 
 use crate::grid::FormGrid;
 use crate::sides::{is_used, opposite};
 use bx_forms::{Kind, Side};
-use bx_grid::{below, entering};
+use bx_grid::{below, column_and_row, entering};
 
-/// Whether each tile takes on exactly the upper sides on which the tiles above go out, nothing leads off
-/// the grid, and inputs stand in the first row and outputs in the last, alone. Takes no memory.
+/// Whether each tile takes on exactly the upper sides on which the tiles above go out, nothing
+/// leads off the grid, and inputs stand in the first row and outputs in the last, alone. Takes no
+/// memory.
 pub fn is_sound(grid: &FormGrid) -> bool
     ensures { IsTrue result ↔ IsSound grid.now }
 {
@@ -36,7 +36,7 @@ fn is_sound_at(grid: &FormGrid, tile: u32) -> bool
 // Whether the tile takes on this upper side exactly where the tile above goes out.
 fn meets(grid: &FormGrid, tile: u32, side: Side) -> bool
     requires { IsTile grid.now.ratio tile }
-    ensures { IsTrue result ↔ (takes_of grid.now tile side ≡ sends_from grid.now (tile_above grid.now.ratio tile side) (opposite_of side)) }
+    ensures { IsTrue result ↔ (takes_of grid.now tile side ≡ goes_to grid.now tile side) }
 {
     let takes = match grid.tile(tile) {
         None => false,
@@ -48,7 +48,7 @@ fn meets(grid: &FormGrid, tile: u32, side: Side) -> bool
 // Whether the tile above this upper side goes out to it.
 fn is_sent_to(grid: &FormGrid, tile: u32, side: Side) -> bool
     requires { IsTile grid.now.ratio tile }
-    ensures { result ≡ sends_from grid.now (tile_above grid.now.ratio tile side) (opposite_of side) }
+    ensures { result ≡ goes_to grid.now tile side }
 {
     match entering(grid.ratio(), tile, side) {
         None => false,
@@ -59,7 +59,8 @@ fn is_sent_to(grid: &FormGrid, tile: u32, side: Side) -> bool
 // Whether nothing leads off the grid on this lower side.
 fn stays(grid: &FormGrid, tile: u32, side: Side) -> bool
     requires { IsTile grid.now.ratio tile }
-    ensures { IsTrue result ↔ (IsTrue (sends_of grid.now tile side) → IsSome (tile_below grid.now.ratio tile side)) }
+    ensures { IsTrue result ↔
+        (IsTrue (sends_of grid.now tile side) → IsSome (tile_below grid.now.ratio tile side)) }
 {
     !sends(grid, tile, side) || below(grid.ratio(), tile, side).is_some()
 }
@@ -81,7 +82,7 @@ fn stands_in_its_row(grid: &FormGrid, tile: u32) -> bool
     ensures { IsTrue result ↔ StandsInItsRow grid.now tile }
 {
     let ratio = grid.ratio();
-    let row = tile / ratio.w;
+    let (_, row) = column_and_row(ratio, tile);
     match grid.tile(tile) {
         None => true,
         Some(form) => {

@@ -1,5 +1,5 @@
-//! The form of each tile of a legal layout: by the node that stands there and the sides on which edges
-//! enter and leave, or by the way that the edges take through it.
+//! The form of each tile of a legal layout: by the node that stands there and the sides on which
+//! edges enter and leave, or by the way that the edges take through it.
 ghost use Rattle.std.specs.Prelude.{◌≡◌, ◌↔◌, ℕ, ◌<◌, ◌^◌, length, Option, Some, None, IfSome, IsNone};
 ghost use Rattle.bx_forms.specs.declared.side.Side.{Side};
 ghost use Rattle.bx_grid.specs.Tiles.{IsGrid, IsTile};
@@ -79,7 +79,8 @@ fn slot_of(net: &MappedNet, edge: Option<u32>) -> Option<u8>
 fn side_from(layout: &Layout, tile: u32, side: Side) -> Option<Side>
     requires grid { IsGrid layout.now.ratio }
     requires tile { IsTile layout.now.ratio tile }
-    requires enters { (e : ℕ) → leaves_of layout.now tile side ≡ Some e → (from : Side) × (enters_of layout.now tile from ≡ Some e) }
+    requires enters { (e : ℕ) → leaves_of layout.now tile side ≡ Some e →
+        (from : Side) × (enters_of layout.now tile from ≡ Some e) }
     ensures { ComesFrom layout.now tile side result }
 {
     let edge = leaves(layout, tile, side)?;
@@ -90,8 +91,8 @@ fn side_from(layout: &Layout, tile: u32, side: Side) -> Option<Side>
     }
 }
 
-// The wire, double or cross that sends out on the lower left and the lower right what comes in on these
-// upper sides.
+// The wire, double or cross that sends out on the lower left and the lower right what comes in on
+// these upper sides.
 fn wire(left: Option<Side>, right: Option<Side>) -> Option<Form>
     requires { (from : Side) → left ≡ Some from → right ≡ Some from → ⊥ }
     ensures { (form : ℕ) → (result ≡ Some form) ↔ IsWireOf (upper_from left right) left right form }

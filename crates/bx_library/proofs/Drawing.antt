@@ -9,7 +9,7 @@ use Rattle.std.specs.Cmp.Lexicographic.{slice_cmp}
 use Rattle.std.specs.Ordering.{ordering_then}
 use Rattle.std.specs.Prelude.{◌≢◌, ◌↔◌, All, IfOk, IfErr, OnOk, IsNone, IsSomeAnd}
 use Rattle.serde_json.specs.Data.{Data}
-use Rattle.bx_forms.specs.declared.table.TheConstants.{FORMS}
+use Rattle.bx_forms.specs.Forms.{form_count}
 use Rattle.bx_library.specs.declared.dot.Dot.{Dot}
 use Rattle.bx_library.specs.declared.fault.Field.TheVariants.{Of}
 use Rattle.bx_library.specs.declared.fault.LibraryFault.{LibraryFault}
@@ -18,7 +18,7 @@ use Rattle.bx_library.specs.Dots.{IsAscending, HaveSameDots, dot_cmp}
 use Rattle.bx_library.specs.Drawn.{IsDrawn, AreDrawn, AreFine, lists_of}
 use Rattle.bx_library.specs.Faults.{IsFree, Where, AtLeast, IsOutsideAt, IsRepeatAt, HasBadDots, HasBadForm}
 use Rattle.bx_library.specs.Tiles.{IsInside}
-use Rattle.bx_library.specs.Values.{dots_of, form_value, listed}
+use Rattle.bx_library.specs.Values.{dots_of, form_value, listed_dots}
 use Rattle.bx_library.proofs.Checks.{none_outside}
 use Rattle.bx_library.proofs.DotOrder.{equal_from_cmp, dot_cmp_itself}
 use Rattle.bx_library.proofs.Pairs.{no_value}
@@ -115,17 +115,17 @@ not_drawn w h = record {
   few = omega arith;
 }
 
-pub drawn_all : (w h : ℕ) (forms : Data) (vs : List (Vec Dot Global)) (n : ℕ) → length vs ≡ n → length FORMS ≤ n
-    → ((f : ℕ) → f < n → IsDrawn w h (listed forms f) (get_or (lists_of vs) f [])) → AreDrawn w h forms (lists_of vs)
+pub drawn_all : (w h : ℕ) (forms : Data) (vs : List (Vec Dot Global)) (n : ℕ) → length vs ≡ n → form_count ≤ n
+    → ((f : ℕ) → f < n → IsDrawn w h (listed_dots forms f) (get_or (lists_of vs) f [])) → AreDrawn w h forms (lists_of vs)
 drawn_all w h forms vs n count all so_far = λ f. elim (cases_lt f n) [
   | inl before ↦ so_far f before
   | inr past ↦
-      let gone : listed forms f ≡ [] = ap (λ (o : Option Data). unwrap_or (option_and_then dots_of o) []) (no_value forms f (omega arith)) in
+      let gone : listed_dots forms f ≡ [] = ap (λ (o : Option Data). unwrap_or (option_and_then dots_of o) []) (no_value forms f (omega arith)) in
       let beyond : length (lists_of vs) ≤ f = rw (length-map vs (λ (x : Vec Dot Global). x.items)) (omega arith) in
       rw (gone, get_or_past (lists_of vs) f [] beyond) (not_drawn w h)
 ]
 
-pub fine_all : (w h : ℕ) (forms : Data) (n : ℕ) → length FORMS ≤ n → ((f : ℕ) → f < n → IsFree (HasBadForm w h f (form_value forms f))) → AreFine w h forms
+pub fine_all : (w h : ℕ) (forms : Data) (n : ℕ) → form_count ≤ n → ((f : ℕ) → f < n → IsFree (HasBadForm w h f (form_value forms f))) → AreFine w h forms
 fine_all w h forms n all so_far = λ f. elim (cases_lt f n) [
   | inl before ↦ so_far f before
   | inr past ↦ rw (no_value forms f (omega arith)) (λ fault bad. bad)
@@ -189,8 +189,8 @@ told_all lists n Set past told = λ f. (
 )
 
 -- at a number of no form all forms have been seen
-pub all_seen : (n : ℕ) → (n < length FORMS → false ≡ true) → length FORMS ≤ n
-all_seen n none = elim (cases_lt n (length FORMS)) [
+pub all_seen : (n : ℕ) → (n < form_count → false ≡ true) → form_count ≤ n
+all_seen n none = elim (cases_lt n form_count) [
   | inl form ↦ let never : false ≡ true = none form in absurd (cc)
   | inr past ↦ past
 ]

@@ -5,8 +5,8 @@ use Rattle.std.proofs.lemmas.List.Elements.{Contains-get_or}
 use Rattle.std.proofs.lemmas.Option.{slice_get_past}
 use Rattle.std.specs.Prelude.{IsSome, IsNone, IsSomeAnd}
 use Rattle.serde_json.specs.Data.{Data}
-use Rattle.bx_forms.specs.Forms.{form_name}
 use Rattle.bx_forms.specs.declared.table.TheConstants.{FORMS}
+use Rattle.bx_forms.specs.Forms.{form_name, form_count}
 use Rattle.bx_library.specs.declared.dot.Dot.{Dot}
 use Rattle.bx_library.specs.declared.fault.Field.TheVariants.{Of}
 use Rattle.bx_library.specs.declared.fault.LibraryFault.{LibraryFault}
@@ -15,7 +15,7 @@ use Rattle.bx_library.specs.Alike.{AreSame, HasSamePair}
 use Rattle.bx_library.specs.Dots.{HaveSameDots}
 use Rattle.bx_library.specs.Drawn.{AreDrawn, AreFine, lists_of}
 use Rattle.bx_library.specs.Faults.{IsFree, ◌⊳◌, Where, HasBadDots, HasBadForm, AreAlike, HasSameDots}
-use Rattle.bx_library.specs.Values.{dots_of, form_value, listed}
+use Rattle.bx_library.specs.Values.{dots_of, form_value, listed_dots}
 use Rattle.bx_library.proofs.DotSets.{one_ascending}
 
 some_none : {X : Type 0} (x : X) → IsNone (Some x) → ⊥
@@ -56,9 +56,9 @@ alike_from_same w h forms all drawn f g same =
     record {
       order = same.order;
       group = same.group;
-      first = offered (form_value forms f) (nonempty_same (listed forms f) ds (drawn f).same same.offered);
-      second = offered (form_value forms g) (nonempty_same (listed forms g) es (drawn g).same second);
-      same = joined (listed forms f) ds (listed forms g) (drawn f).same (joined ds es (listed forms g) both (turned (listed forms g) es (drawn g).same));
+      first = offered (form_value forms f) (nonempty_same (listed_dots forms f) ds (drawn f).same same.offered);
+      second = offered (form_value forms g) (nonempty_same (listed_dots forms g) es (drawn g).same second);
+      same = joined (listed_dots forms f) ds (listed_dots forms g) (drawn f).same (joined ds es (listed_dots forms g) both (turned (listed_dots forms g) es (drawn g).same));
     }
 
 pub same_from_alike : (w h : ℕ) (forms : Data) (all : List (List Dot)) → AreDrawn w h forms all → AreFine w h forms → (f g : ℕ) → AreAlike forms f g → AreSame all f g
@@ -68,9 +68,9 @@ same_from_alike w h forms all drawn fine f g alike =
     record {
       order = alike.order;
       group = alike.group;
-      offered = nonempty_same ds (listed forms f) (turned (listed forms f) ds (drawn f).same) (nonempty w h f (form_value forms f) (fine f) alike.first);
+      offered = nonempty_same ds (listed_dots forms f) (turned (listed_dots forms f) ds (drawn f).same) (nonempty w h f (form_value forms f) (fine f) alike.first);
       same = one_ascending ds es (drawn f).ascending (drawn g).ascending
-          (joined ds (listed forms f) es (turned (listed forms f) ds (drawn f).same) (joined (listed forms f) (listed forms g) es alike.same (drawn g).same));
+          (joined ds (listed_dots forms f) es (turned (listed_dots forms f) ds (drawn f).same) (joined (listed_dots forms f) (listed_dots forms g) es alike.same (drawn g).same));
     }
 
 pub least_alike : (w h : ℕ) (forms : Data) (all : List (List Dot)) → AreDrawn w h forms all → AreFine w h forms → (fault : LibraryFault) → HasSamePair all fault → HasSameDots forms fault
@@ -86,11 +86,11 @@ least_alike w h forms all drawn fine fault least = record {
 pub none_alike : (w h : ℕ) (forms : Data) (all : List (List Dot)) → AreDrawn w h forms all → AreFine w h forms → ((f g : ℕ) → AreSame all f g → ⊥) → IsFree (HasSameDots forms)
 none_alike w h forms all drawn fine none = λ fault same. none same.f same.g (same_from_alike w h forms all drawn fine same.f same.g same.alike)
 
-no_name : (form : ℕ) → length FORMS ≤ form → form_name form ≡ None
+no_name : (form : ℕ) → form_count ≤ form → form_name form ≡ None
 no_name form past = slice_get_past (map (λ line. line.0.now) FORMS) form (rw length-map past)
 
 -- a form that isn't in the table has no value
-pub no_value : (forms : Data) (form : ℕ) → length FORMS ≤ form → form_value forms form ≡ None
+pub no_value : (forms : Data) (form : ℕ) → form_count ≤ form → form_value forms form ≡ None
 no_value forms form past = rw (no_name form past) refl
 
 -- the list that a vector holds

@@ -1,7 +1,7 @@
 -- From the parts of a library to what a value gives.
 use Rattle.std.proofs.Common.{◌≡◌, ℕ, List, length, inl, inr, subst}
 use Rattle.serde_json.specs.Data.{Data}
-use Rattle.bx_forms.specs.declared.table.TheConstants.{FORMS}
+use Rattle.bx_forms.specs.Forms.{form_count}
 use Rattle.bx_library.specs.declared.dot.Dot.{Dot}
 use Rattle.bx_library.specs.declared.fault.LibraryFault.{LibraryFault}
 use Rattle.bx_library.specs.Alike.{AreSame, HasSamePair}
@@ -14,7 +14,7 @@ use Rattle.bx_library.proofs.Pairs.{least_alike, none_alike}
 use Rattle.bx_library.proofs.Stages.{free_both}
 
 -- what has been read makes a library
-pub library : (w h : ℕ) (forms : Data) (all : List (List Dot)) → IsWidth w → IsHeight h → length all ≡ length FORMS → AreDrawn w h forms all → ((f g : ℕ) → AreSame all f g → ⊥)
+pub library : (w h : ℕ) (forms : Data) (all : List (List Dot)) → IsWidth w → IsHeight h → length all ≡ form_count → AreDrawn w h forms all → ((f g : ℕ) → AreSame all f g → ⊥)
     → IsLibrary (record { width = w; height = h; dots = all })
 library w h forms all wide high count drawn none = record {
   width = wide;
@@ -69,7 +69,7 @@ no_later value w h obj is free =
     (subst (λ y. IsFree (HasBadSize (width value) y ⊳ Later (width value) y obj)) is.height
     (subst (λ x. IsFree (HasBadSize x h ⊳ Later x h obj)) is.width free)))
 
-pub given : (value : Data) (w h : ℕ) (obj : Data) (all : List (List Dot)) → IsRead value w h obj → IsFree (HasBadSize w h) → IsFree (HasUnknownForm obj) → length all ≡ length FORMS → AreDrawn w h obj all → AreFine w h obj
+pub given : (value : Data) (w h : ℕ) (obj : Data) (all : List (List Dot)) → IsRead value w h obj → IsFree (HasBadSize w h) → IsFree (HasUnknownForm obj) → length all ≡ form_count → AreDrawn w h obj all → AreFine w h obj
     → ((f g : ℕ) → AreSame all f g → ⊥) → IsLibraryOf value (record { width = w; height = h; dots = all })
 given value w h obj all is size known count drawn fine none = record {
   free = no_later value w h obj is

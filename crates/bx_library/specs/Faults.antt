@@ -1,4 +1,5 @@
--- What can be wrong with a JSON value that is to be a library, and which of its faults is the first.
+-- What can be wrong with a JSON value that is to be a library, and which of its faults is the
+-- first.
 use Rattle.std.specs.Prelude.{◌≡◌, ◌≢◌, ◌⊎◌, ℕ, ◌<◌, List, [], length, take, Contains, Option, Some, None, IsSome, IsNone, IsSomeAnd}
 use Rattle.std.specs.List.{slice_get}
 use Rattle.std.specs.declared.cmp.Ordering.TheVariants.{Less}
@@ -10,15 +11,19 @@ use Rattle.bx_forms.specs.Forms.{form_name}
 use Rattle.bx_library.specs.declared.dot.Dot.{Dot}
 use Rattle.bx_library.specs.declared.fault.Field.TheVariants.{Name, Width, Height, Forms, Of}
 use Rattle.bx_library.specs.declared.fault.LibraryFault.{LibraryFault}
-use Rattle.bx_library.specs.declared.fault.LibraryFault.TheVariants.{Shape, BadSize, UnknownForm, NoDots, TooManyDots, DotOutside, SameDot, SameDots}
+use Rattle.bx_library.specs.declared.fault.LibraryFault.TheVariants.{NoMemory, Shape, BadSize, UnknownForm, NoDots, TooManyDots, DotOutside, SameDot, SameDots}
 use Rattle.bx_library.specs.Dots.{HaveSameDots}
 use Rattle.bx_library.specs.Groups.{group_of}
 use Rattle.bx_library.specs.Tiles.{IsWidth, IsHeight, IsInside}
-use Rattle.bx_library.specs.Values.{name_of, width_of, height_of, forms_of, width, height, forms, dots_of, form_value, listed}
+use Rattle.bx_library.specs.Values.{name_of, width_of, height_of, forms_of, width, height, forms, dots_of, form_value, listed_dots}
 
 -- nothing is wrong in this way
 abbrev pub IsFree : (LibraryFault → Type 0) → Type 0
 IsFree Fault = (fault : LibraryFault) → Fault fault → ⊥
+
+-- it is in this way, unless memory was refused
+abbrev pub UnlessRefused : (LibraryFault → Type 0) → LibraryFault → Type 0
+UnlessRefused Fault fault = fault ≢ NoMemory → Fault fault
 
 -- what is wrong in the first way, or where nothing is, in the second way
 infixr 5 ◌⊳◌
@@ -98,7 +103,8 @@ HasBadForm w h form (Some value) =
 pub record HasBadForms (w h : ℕ) (forms : Data) (fault : LibraryFault) : Type 0 where
   pub form : ℕ
   pub bad : HasBadForm w h form (form_value forms form) fault
-  pub none_before : (other : ℕ) → other < form → IsFree (HasBadForm w h other (form_value forms other))
+  pub none_before : (other : ℕ) → other < form →
+      IsFree (HasBadForm w h other (form_value forms other))
 
 -- ---- forms that can't be told apart
 
@@ -107,7 +113,7 @@ pub record AreAlike (forms : Data) (f g : ℕ) : Type 0 where
   pub group : group_of f ≡ group_of g
   pub first : IsSome (form_value forms f)
   pub second : IsSome (form_value forms g)
-  pub same : HaveSameDots (listed forms f) (listed forms g)
+  pub same : HaveSameDots (listed_dots forms f) (listed_dots forms g)
 
 -- the least such f, and of it the least such g
 pub record HasSameDots (forms : Data) (fault : LibraryFault) : Type 0 where

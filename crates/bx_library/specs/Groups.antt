@@ -1,6 +1,6 @@
--- The groups of forms. Which of its forms a tile has is told by its dots and by where it stands: in the
--- first row stand inputs alone, in the last row outputs alone, and between them the others. So two forms
--- of one group may not have the same dots.
+-- The groups of forms. Which of its forms a tile has is told by its dots and by where it stands: in
+-- the first row stand inputs alone, in the last row outputs alone, and between them the others. So
+-- two forms of one group may not have the same dots.
 use Rattle.std.specs.Prelude.{ℕ, Option, Some}
 use Rattle.bx_forms.specs.declared.kind.Kind.{Kind}
 use Rattle.bx_forms.specs.declared.kind.Kind.TheVariants as kind

@@ -1,11 +1,12 @@
 -- A library as contracts see it, and what it keeps.
 use Rattle.std.specs.Prelude.{◌≡◌, ℕ, ◌<◌, ◌≤◌, ◌%◌, List, [], length, slice_index_or, All}
-use Rattle.bx_forms.specs.declared.table.TheConstants.{FORMS}
+use Rattle.bx_forms.specs.Forms.{form_count}
 use Rattle.bx_library.specs.declared.dot.Dot.{Dot}
 use Rattle.bx_library.specs.Dots.{IsAscending}
 use Rattle.bx_library.specs.Groups.{group_of}
 
--- the size of a tile, and the dots of each form in the order of their numbers: none where it isn't offered
+-- the size of a tile, and the dots of each form in the order of their numbers: none where it isn't
+-- offered
 pub record Tiles : Type 0 where
   pub width : ℕ
   pub height : ℕ
@@ -38,10 +39,11 @@ pub record IsInside (w h : ℕ) (dot : Dot) : Type 0 where
 pub record IsLibrary (tiles : Tiles) : Type 0 where
   pub width : IsWidth tiles.width
   pub height : IsHeight tiles.height
-  pub count : length tiles.dots ≡ length FORMS
+  pub count : length tiles.dots ≡ form_count
   -- each form has at most 1,024 dots, each of them inside the tile, and none twice
   pub few : (form : ℕ) → length (form_dots tiles form) ≤ 1024
   pub inside : (form : ℕ) → All (IsInside tiles.width tiles.height) (form_dots tiles form)
   pub ascending : (form : ℕ) → IsAscending (form_dots tiles form)
   -- two forms of one group that are offered have different dots
-  pub apart : (f g : ℕ) → f < g → IsOffered tiles f → group_of f ≡ group_of g → form_dots tiles f ≡ form_dots tiles g → ⊥
+  pub apart : (f g : ℕ) → f < g → IsOffered tiles f → group_of f ≡ group_of g →
+      form_dots tiles f ≡ form_dots tiles g → ⊥

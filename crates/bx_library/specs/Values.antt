@@ -13,7 +13,9 @@ pub record Holds (bytes : List ℕ) (value : Data) : Type 0 where
 
 -- a whole number that 32 bits hold
 abbrev pub whole : Data → Option ℕ
-whole value = option_and_then (λ n. if nat_lt n 4294967296 then Some n else None) (option_and_then as_u64 (as_number value))
+whole value =
+    option_and_then (λ n. if nat_lt n 4294967296 then Some n else None)
+    (option_and_then as_u64 (as_number value))
 
 abbrev pub dot_from : Option ℕ → Option ℕ → Option ℕ → Option Dot
 dot_from (Some n) (Some m) (Some l) = Some (record { m = m; l = l; n = n })
@@ -30,7 +32,8 @@ dot_of value = option_and_then dot_of_items (as_array value)
 -- each item, as a dot
 abbrev pub dots_of_items : Items → Option (List Dot)
 dots_of_items no_items = Some []
-dots_of_items (item d ds) = option_and_then (λ dot. option_map (λ dots. dot ∷ dots) (dots_of_items ds)) (dot_of d)
+dots_of_items (item d ds) =
+    option_and_then (λ dot. option_map (λ dots. dot ∷ dots) (dots_of_items ds)) (dot_of d)
 
 abbrev pub dots_of : Data → Option (List Dot)
 dots_of value = option_and_then dots_of_items (as_array value)
@@ -47,7 +50,8 @@ height_of value = option_and_then whole (get (codes "height") value)
 
 -- an object
 abbrev pub forms_of : Data → Option Data
-forms_of value = option_and_then (λ forms. option_map (λ _. forms) (as_object forms)) (get (codes "forms") value)
+forms_of value =
+    option_and_then (λ forms. option_map (λ _. forms) (as_object forms)) (get (codes "forms") value)
 
 -- the same, where they are there
 abbrev pub width : Data → ℕ
@@ -66,5 +70,5 @@ abbrev pub form_value : Data → ℕ → Option Data
 form_value forms form = option_and_then (λ name. get name forms) (form_name form)
 
 -- the dots that are listed there
-abbrev pub listed : Data → ℕ → List Dot
-listed forms form = unwrap_or (option_and_then dots_of (form_value forms form)) []
+abbrev pub listed_dots : Data → ℕ → List Dot
+listed_dots forms form = unwrap_or (option_and_then dots_of (form_value forms form)) []

@@ -1,6 +1,6 @@
 //! Forms that can't be told apart: two of one group with the same dots.
 ghost use Rattle.std.specs.Prelude.{◌≡◌, ◌<◌, ◌↔◌, ℕ, length, IfSome, IsNone, IsTrue, OnOk, IfErr};
-ghost use Rattle.bx_forms.specs.declared.table.TheConstants.{FORMS as TABLE};
+ghost use Rattle.bx_forms.specs.Forms.{form_count};
 ghost use Rattle.bx_library.specs.Drawn.{lists_of};
 ghost use Rattle.bx_library.specs.Alike.{AreSame, HasSamePair};
 ghost use Rattle.bx_library.specs.Faults.{IsLeast};
@@ -14,7 +14,7 @@ use bx_forms::Form;
 ///
 /// `SameDots` with the least such form, and of its partners the least.
 pub(crate) fn check_pairs(all: &[Vec<Dot>]) -> Result<(), LibraryFault>
-    requires { length all.now ≡ length TABLE }
+    requires { length all.now ≡ form_count }
     ensures none { OnOk result ((f g : ℕ) → AreSame (lists_of all.now) f g → ⊥) }
     ensures err { IfErr result (HasSamePair (lists_of all.now)) }
 {
@@ -30,7 +30,7 @@ pub(crate) fn check_pairs(all: &[Vec<Dot>]) -> Result<(), LibraryFault>
 
 // The first form behind this one that is of its group and has its dots.
 fn same_as(all: &[Vec<Dot>], first: Form) -> Option<Form>
-    requires { length all.now ≡ length TABLE }
+    requires { length all.now ≡ form_count }
     ensures some { IfSome result (IsLeast (AreSame (lists_of all.now) first)) }
     ensures none { IsNone result → (g : ℕ) → AreSame (lists_of all.now) first g → ⊥ }
 {
@@ -44,10 +44,10 @@ fn same_as(all: &[Vec<Dot>], first: Form) -> Option<Form>
     None
 }
 
-// Whether two forms, of which the first has the smaller number, are of one group, offered, and have the same
-// dots.
+// Whether two forms, of which the first has the smaller number, are of one group, offered, and have
+// the same dots.
 fn are_same(all: &[Vec<Dot>], first: Form, second: Form) -> bool
-    requires count { length all.now ≡ length TABLE }
+    requires count { length all.now ≡ form_count }
     requires order { first < second }
     ensures { IsTrue result ↔ AreSame (lists_of all.now) first second }
 {
@@ -61,8 +61,8 @@ fn are_same(all: &[Vec<Dot>], first: Form, second: Form) -> bool
     same_list(dots, &all[usize::from(second.number())])
 }
 
-// Whether two lists are one.
-fn same_list(dots: &[Dot], others: &[Dot]) -> bool
+/// Whether two lists of dots are one.
+pub fn same_list(dots: &[Dot], others: &[Dot]) -> bool
     ensures { IsTrue result ↔ (dots.now ≡ others.now) }
 {
     dots.cmp(&others).is_eq()

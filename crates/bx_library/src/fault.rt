@@ -22,8 +22,8 @@ pub enum Field {
     Of(Form),
 }
 
-/// Why bytes are no library. The faults of the bytes come in this order, and those of a form before those
-/// of the forms behind it. `NoMemory` is no fault of the bytes, and may come at any time.
+/// Why bytes are no library. The faults of the bytes come in this order, and those of a form before
+/// those of the forms behind it. `NoMemory` is no fault of the bytes, and may come at any time.
 #[derive(Drop)]
 pub enum LibraryFault {
     /// The bytes are no JSON.

@@ -1,16 +1,15 @@
-//! The dots of the forms, as they are listed under the names of forms: inside the tile, none twice, and in
-//! order.
+//! The dots of the forms, as they are listed under the names of forms: inside the tile, none twice,
+//! and in order.
 ghost use Rattle.std.specs.Prelude.{◌≡◌, ◌≢◌, ◌<◌, ◌≤◌, ℕ, Some, List, length, map, unwrap_or, [], IfOk, IfErr, OnOk, IfSome, IfNone, All};
 ghost use Rattle.serde_json.specs.View.{view};
-ghost use Rattle.bx_forms.specs.Forms.{IsForm};
-ghost use Rattle.bx_forms.specs.declared.table.TheConstants.{FORMS as TABLE};
+ghost use Rattle.bx_forms.specs.Forms.{IsForm, form_count};
 ghost use Rattle.bx_library.specs.declared.dot.Dot.{Dot};
 ghost use Rattle.bx_library.specs.Dots.{IsAscending, HaveSameDots};
 ghost use Rattle.bx_library.specs.Drawn.{IsDrawn, AreDrawn, AreFine, lists_of};
-ghost use Rattle.bx_library.specs.Faults.{IsFree, AtLeast, IsOutsideAt, IsRepeatAt, HasBadDots, HasBadForm, HasBadForms};
+ghost use Rattle.bx_library.specs.Faults.{UnlessRefused, IsFree, AtLeast, IsOutsideAt, IsRepeatAt, HasBadDots, HasBadForm, HasBadForms};
 ghost use Rattle.bx_library.specs.Tiles.{IsInside};
 ghost use Rattle.bx_library.specs.Triples.{triple_dot};
-ghost use Rattle.bx_library.specs.Values.{form_value, listed, dots_of};
+ghost use Rattle.bx_library.specs.Values.{form_value, listed_dots, dots_of};
 
 use crate::fields::Fields;
 use crate::values::{Triple, triples};
@@ -23,17 +22,20 @@ use std::collections::BTreeSet;
 // The most dots that a form may have.
 const MOST_DOTS: usize = 1024;
 
-/// The dots of each form, in the order of the forms' numbers, each list ascending: none where the form isn't
-/// offered.
+/// The dots of each form, in the order of the forms' numbers, each list ascending: none where the
+/// form isn't offered.
 ///
 /// # Errors
 ///
 /// The first fault of the form of the least number that has one, or `NoMemory`.
 pub(crate) fn form_dots(alloc: Global, fields: &Fields<'_>) -> Result<Vec<Vec<Dot>>, LibraryFault>
-    ensures count { IfOk result (λ all. length all.items ≡ length TABLE) }
-    ensures drawn { IfOk result (λ all. AreDrawn fields.now.width fields.now.height (view fields.now.forms.now) (lists_of all.items)) }
-    ensures fine { OnOk result (AreFine fields.now.width fields.now.height (view fields.now.forms.now)) }
-    ensures err { IfErr result (λ fault. fault ≢ LibraryFault.NoMemory → HasBadForms fields.now.width fields.now.height (view fields.now.forms.now) fault) }
+    ensures count { IfOk result (λ all. length all.items ≡ form_count) }
+    ensures drawn { IfOk result (λ all. AreDrawn fields.now.width fields.now.height
+        (view fields.now.forms.now) (lists_of all.items)) }
+    ensures fine { OnOk result
+        (AreFine fields.now.width fields.now.height (view fields.now.forms.now)) }
+    ensures err { IfErr result (UnlessRefused
+        (HasBadForms fields.now.width fields.now.height (view fields.now.forms.now))) }
 {
     let mut all = Vec::new(alloc);
     let mut number = 0;
@@ -46,9 +48,12 @@ pub(crate) fn form_dots(alloc: Global, fields: &Fields<'_>) -> Result<Vec<Vec<Do
 
 // The dots of a form, none where it isn't offered.
 fn dots_at(alloc: Global, form: Form, fields: &Fields<'_>) -> Result<Vec<Dot>, LibraryFault>
-    ensures drawn { IfOk result (λ dots. IsDrawn fields.now.width fields.now.height (listed (view fields.now.forms.now) form) dots.items) }
-    ensures fine { OnOk result (IsFree (HasBadForm fields.now.width fields.now.height form (form_value (view fields.now.forms.now) form))) }
-    ensures err { IfErr result (λ fault. fault ≢ LibraryFault.NoMemory → HasBadForm fields.now.width fields.now.height form (form_value (view fields.now.forms.now) form) fault) }
+    ensures drawn { IfOk result (λ dots. IsDrawn fields.now.width fields.now.height
+        (listed_dots (view fields.now.forms.now) form) dots.items) }
+    ensures fine { OnOk result (IsFree (HasBadForm fields.now.width fields.now.height form
+        (form_value (view fields.now.forms.now) form))) }
+    ensures err { IfErr result (UnlessRefused (HasBadForm fields.now.width fields.now.height form
+        (form_value (view fields.now.forms.now) form))) }
 {
     match fields.forms.get(form.name()) {
         Some(value) => dots_of_form(alloc, form, value, fields.width, fields.height),
@@ -64,9 +69,11 @@ fn dots_of_form(
     width: u32,
     height: u32,
 ) -> Result<Vec<Dot>, LibraryFault>
-    ensures drawn { IfOk result (λ dots. IsDrawn width height (unwrap_or (dots_of (view value.now)) []) dots.items) }
+    ensures drawn { IfOk result
+        (λ dots. IsDrawn width height (unwrap_or (dots_of (view value.now)) []) dots.items) }
     ensures fine { OnOk result (IsFree (HasBadForm width height form (Some (view value.now)))) }
-    ensures err { IfErr result (λ fault. fault ≢ LibraryFault.NoMemory → HasBadForm width height form (Some (view value.now)) fault) }
+    ensures err { IfErr result
+        (UnlessRefused (HasBadForm width height form (Some (view value.now)))) }
 {
     match triples(alloc, value)? {
         Some(listed) => checked_dots(alloc, form, &listed, width, height),
@@ -82,9 +89,11 @@ fn checked_dots(
     width: u32,
     height: u32,
 ) -> Result<Vec<Dot>, LibraryFault>
-    ensures drawn { IfOk result (λ dots. IsDrawn width height (map triple_dot listed.now) dots.items) }
+    ensures drawn { IfOk result
+        (λ dots. IsDrawn width height (map triple_dot listed.now) dots.items) }
     ensures free { OnOk result (IsFree (HasBadDots width height form (map triple_dot listed.now))) }
-    ensures err { IfErr result (λ fault. fault ≢ LibraryFault.NoMemory → HasBadDots width height form (map triple_dot listed.now) fault) }
+    ensures err { IfErr result (λ fault. fault ≢ LibraryFault.NoMemory →
+        HasBadDots width height form (map triple_dot listed.now) fault) }
 {
     if listed.is_empty() {
         return Err(LibraryFault::NoDots(form));
@@ -107,7 +116,9 @@ fn inside_dots(
     requires { length listed.now ≤ 1024 }
     ensures same { IfOk result (λ dots. dots.items ≡ map triple_dot listed.now) }
     ensures inside { IfOk result (λ dots. All (IsInside width height) dots.items) }
-    ensures err { IfErr result (λ fault. fault ≢ LibraryFault.NoMemory → AtLeast (IsOutsideAt width height (map triple_dot listed.now)) (LibraryFault.DotOutside form) fault) }
+    ensures err { IfErr result (λ fault. fault ≢ LibraryFault.NoMemory →
+        AtLeast (IsOutsideAt width height (map triple_dot listed.now))
+        (LibraryFault.DotOutside form) fault) }
 {
     let mut dots = Vec::new(alloc);
     for (k, triple) in listed.iter().enumerate() {
@@ -139,7 +150,8 @@ fn ascending(alloc: Global, form: Form, dots: &[Dot]) -> Result<Vec<Dot>, Librar
     ensures same { IfOk result (λ sorted. HaveSameDots dots.now sorted.items) }
     ensures count { IfOk result (λ sorted. length sorted.items ≡ length dots.now) }
     ensures free { OnOk result ((k : ℕ) → IsRepeatAt dots.now k → ⊥) }
-    ensures err { IfErr result (λ fault. fault ≢ LibraryFault.NoMemory → AtLeast (IsRepeatAt dots.now) (LibraryFault.SameDot form) fault) }
+    ensures err { IfErr result
+        (UnlessRefused (AtLeast (IsRepeatAt dots.now) (LibraryFault.SameDot form))) }
 {
     let mut seen = BTreeSet::new(alloc);
     for (k, dot) in dots.iter().enumerate() {

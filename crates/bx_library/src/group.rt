@@ -1,6 +1,7 @@
-//! The groups of forms. In the first row of a grid stand inputs alone, in the last row outputs alone, and
-//! between them the others: so a tile is known by its dots among the forms of one group, and forms of two
-//! groups may have the same dots. What stands in which row is for the crates above to see to.
+//! The groups of forms. In the first row of a grid stand inputs alone, in the last row outputs
+//! alone, and between them the others: so a tile is known by its dots among the forms of one group,
+//! and forms of two groups may have the same dots. What stands in which row is for the crates above
+//! to see to.
 ghost use Rattle.std.specs.Prelude.{◌≡◌};
 ghost use Rattle.bx_library.specs.Groups.{group_of};
 

@@ -8,8 +8,8 @@ ghost use Rattle.bx_library.specs.Dots.{IsBefore, IsAscending, HaveSameDots, dot
 ghost use Rattle.bx_library.specs.Readings.{Reads};
 ghost use Rattle.bx_library.specs.Tiles.{Tiles};
 
-/// The order of dots is one and the same, whichever way it is told, and it is a strict one in which of two
-/// dots that differ one stands before the other.
+/// The order of dots is one and the same, whichever way it is told, and it is a strict one in which
+/// of two dots that differ one stands before the other.
 pub fn dots_have_one_order()
     ensures before { (a b : Dot) → (dot_cmp a b ≡ Less) ↔ IsBefore a b }
     ensures equal { (a b : Dot) → (dot_cmp a b ≡ Equal) ↔ (a ≡ b) }
@@ -24,5 +24,6 @@ pub fn a_set_of_dots_has_one_order()
 
 /// Bytes give one library, or one fault.
 pub fn bytes_give_one_thing()
-    ensures { (bytes : List ℕ) (r s : Result Tiles LibraryFault) → Reads bytes r → Reads bytes s → r ≡ s }
+    ensures { (bytes : List ℕ) (r s : Result Tiles LibraryFault) → Reads bytes r → Reads bytes s →
+        r ≡ s }
 {}

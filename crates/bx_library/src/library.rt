@@ -1,8 +1,8 @@
-//! A dot library. The type keeps that the width is even, that each form's dots lie inside the tile, none of
-//! them twice, and that no two forms of a group have the same dots. What bytes give it is for the reader to
-//! say.
+//! A dot library. The type keeps that the width is even, that each form's dots lie inside the tile,
+//! none of them twice, and that no two forms of a group have the same dots. What bytes give it is
+//! for the reader to say.
 ghost use Rattle.std.specs.Prelude.{◌≡◌, ◌↔◌, ◌⊎◌, ◌<◌, ℕ, [], length, slice_index_or};
-ghost use Rattle.bx_forms.specs.declared.table.TheConstants.{FORMS as TABLE};
+ghost use Rattle.bx_forms.specs.Forms.{form_count};
 ghost use Rattle.bx_forms.specs.FormSets.{IsIn};
 ghost use Rattle.bx_library.specs.Drawn.{lists_of};
 ghost use Rattle.bx_library.specs.Tiles.{IsLibrary, IsOffered, form_dots};
@@ -34,7 +34,8 @@ impl Model for Library {
 impl Library {
     /// The library of these parts. Takes no memory.
     pub(crate) fn new(width: u32, height: u32, dots: Vec<Vec<Dot>>) -> Self
-        requires { IsLibrary (record { width = width; height = height; dots = lists_of dots.items }) }
+        requires { IsLibrary
+            (record { width = width; height = height; dots = lists_of dots.items }) }
         ensures { result ≡ record { width = width; height = height; dots = lists_of dots.items } }
     {
         Library {
@@ -79,8 +80,9 @@ impl Library {
 
 // The forms that have a dot, by these lists of the dots of each form.
 fn offered(all: &[Vec<Dot>]) -> FormSet
-    requires { length all.now ≡ length TABLE }
-    ensures { (form : ℕ) → IsIn result form ↔ (0 < length (slice_index_or (lists_of all.now) form [])) }
+    requires { length all.now ≡ form_count }
+    ensures { (form : ℕ) →
+        IsIn result form ↔ (0 < length (slice_index_or (lists_of all.now) form [])) }
 {
     let mut set = FormSet::none();
     let mut number = 0;
@@ -93,7 +95,8 @@ fn offered(all: &[Vec<Dot>]) -> FormSet
 
 // The set, and in it the form if it has a dot.
 fn with_offered(set: FormSet, form: Form, dots: &[Dot]) -> FormSet
-    ensures { (other : ℕ) → IsIn result other ↔ (IsIn set other ⊎ ((other ≡ form) × (0 < length dots.now))) }
+    ensures { (other : ℕ) →
+        IsIn result other ↔ (IsIn set other ⊎ ((other ≡ form) × (0 < length dots.now))) }
 {
     if dots.is_empty() { set } else { set.with(form) }
 }

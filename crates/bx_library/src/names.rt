@@ -2,7 +2,7 @@
 ghost use Rattle.std.specs.Prelude.{◌≡◌, ◌≢◌, List, ℕ, IfOk, IfErr, OnOk, IfSome, IsNone};
 ghost use Rattle.serde_json.specs.Data.{object};
 ghost use Rattle.serde_json.specs.View.{view, members_view};
-ghost use Rattle.bx_library.specs.Faults.{IsFree, IsUnknown, IsLeastUnknown, HasUnknownForm};
+ghost use Rattle.bx_library.specs.Faults.{UnlessRefused, IsFree, IsUnknown, IsLeastUnknown, HasUnknownForm};
 
 use crate::LibraryFault;
 use bx_forms::Form;
@@ -17,7 +17,7 @@ use std::alloc::Global;
 /// `UnknownForm` with the least such key, or `NoMemory`.
 pub(crate) fn check_names(alloc: Global, forms: &Value) -> Result<(), LibraryFault>
     ensures free { OnOk result (IsFree (HasUnknownForm (view forms.now))) }
-    ensures err { IfErr result (λ fault. fault ≢ LibraryFault.NoMemory → HasUnknownForm (view forms.now) fault) }
+    ensures err { IfErr result (UnlessRefused (HasUnknownForm (view forms.now))) }
 {
     let Some(map) = forms.as_object() else {
         return Ok(());
@@ -30,8 +30,10 @@ pub(crate) fn check_names(alloc: Global, forms: &Value) -> Result<(), LibraryFau
 
 // The least key that is the name of no form. The keys of a map are in the order of their bytes.
 fn unknown_name(map: &Map<String, Value>) -> Option<&str>
-    ensures some { IfSome result (λ name. IsLeastUnknown (object (members_view map.now.entries)) name.now) }
-    ensures none { IsNone result → (name : List ℕ) → IsUnknown (object (members_view map.now.entries)) name → ⊥ }
+    ensures some { IfSome result
+        (λ name. IsLeastUnknown (object (members_view map.now.entries)) name.now) }
+    ensures none { IsNone result → (name : List ℕ) →
+        IsUnknown (object (members_view map.now.entries)) name → ⊥ }
 {
     for name in map.keys() {
         if Form::by_name(name.as_str()).is_none() {

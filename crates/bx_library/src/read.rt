@@ -1,5 +1,5 @@
-//! Reading a library. It promises the library of the bytes, or their first fault, unless memory runs out.
-//! What JSON is, is `serde_json`'s to say.
+//! Reading a library. It promises the library of the bytes, or their first fault, unless memory
+//! runs out. What JSON is, is `serde_json`'s to say.
 ghost use Rattle.std.specs.Prelude.{◌≡◌, ◌≢◌, Result, Ok, Err, IfOk, IfErr};
 ghost use Rattle.serde_json.specs.View.{view};
 ghost use Rattle.bx_library.specs.declared.fault.LibraryFault.{LibraryFault as Fault};
@@ -23,9 +23,11 @@ pub fn read_library(alloc: Global, bytes: &[u8]) -> Result<Library, LibraryFault
     // The library that is answered is that of the bytes.
     ensures found { IfOk result (λ library. Reads bytes.now (Ok library)) }
     // The fault that is answered is the first one of the bytes.
-    ensures faults { IfErr result (λ fault. fault ≢ LibraryFault.NoMemory → Reads bytes.now (Err fault)) }
+    ensures faults { IfErr result
+        (λ fault. fault ≢ LibraryFault.NoMemory → Reads bytes.now (Err fault)) }
     // What the bytes give is answered, unless memory runs out.
-    ensures exact { (r : Result Tiles Fault) → Reads bytes.now r → result ≢ Err LibraryFault.NoMemory → result ≡ r }
+    ensures exact { (r : Result Tiles Fault) → Reads bytes.now r →
+        result ≢ Err LibraryFault.NoMemory → result ≡ r }
 {
     match Value::from_slice(alloc, bytes) {
         Ok(value) => library(alloc, &value),
@@ -37,7 +39,8 @@ pub fn read_library(alloc: Global, bytes: &[u8]) -> Result<Library, LibraryFault
 // The library of a value.
 fn library(alloc: Global, value: &Value) -> Result<Library, LibraryFault>
     ensures found { IfOk result (λ library. Gives (view value.now) (Ok library)) }
-    ensures faults { IfErr result (λ fault. fault ≢ LibraryFault.NoMemory → Gives (view value.now) (Err fault)) }
+    ensures faults { IfErr result
+        (λ fault. fault ≢ LibraryFault.NoMemory → Gives (view value.now) (Err fault)) }
 {
     let fields = read_fields(value)?;
     check_size(fields.width, fields.height)?;

@@ -1,5 +1,5 @@
-//! The parts of a JSON value that a library is made of, each where it has its type. What is wrong where it
-//! hasn't is for others to say.
+//! The parts of a JSON value that a library is made of, each where it has its type. What is wrong
+//! where it hasn't is for others to say.
 ghost use Rattle.std.specs.Prelude.{◌≡◌, map, option_map, option_and_then, IfOk};
 ghost use Rattle.serde_json.specs.Find.{get};
 ghost use Rattle.serde_json.specs.View.{view, items_view};
@@ -33,7 +33,8 @@ fn whole_number(value: &Value) -> Option<u32>
 
 /// The dots that are listed, if each is a list of three numbers.
 pub(crate) fn triples(alloc: Global, value: &Value) -> Result<Option<Vec<Triple>>, NoMemory>
-    ensures { IfOk result (λ found. option_map (λ v. map triple_dot v.items) found ≡ dots_of (view value.now)) }
+    ensures { IfOk result
+        (λ found. option_map (λ v. map triple_dot v.items) found ≡ dots_of (view value.now)) }
 {
     match value.as_array() {
         Some(list) => triples_in(alloc, list),
@@ -42,7 +43,8 @@ pub(crate) fn triples(alloc: Global, value: &Value) -> Result<Option<Vec<Triple>
 }
 
 fn triples_in(alloc: Global, list: &[Value]) -> Result<Option<Vec<Triple>>, NoMemory>
-    ensures { IfOk result (λ found. option_map (λ v. map triple_dot v.items) found ≡ dots_of_items (items_view list.now)) }
+    ensures { IfOk result (λ found. option_map (λ v. map triple_dot v.items) found ≡
+        dots_of_items (items_view list.now)) }
 {
     let mut triples = Vec::new(alloc);
     for value in list {

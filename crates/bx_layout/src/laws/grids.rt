@@ -8,8 +8,9 @@ pub fn a_sound_grid_loses_nothing()
     ensures { (g : FormGrid) → IsSound g → LosesNothing g }
 {}
 
-/// For any values given to its first row the borders of a form grid, sound or not and of any number of
-/// rows, have exactly one valuation.
+/// For any values given to its first row the borders of a form grid, sound or not and of any number
+/// of rows, have exactly one valuation.
 pub fn a_grid_has_one_valuation()
-    ensures { (g : FormGrid) (given : List Bool) → (borders : List Bool) × IsOnlyBorderValuation g given borders }
+    ensures { (g : FormGrid) (given : List Bool) →
+        (borders : List Bool) × IsOnlyBorderValuation g given borders }
 {}

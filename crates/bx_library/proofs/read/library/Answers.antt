@@ -2,7 +2,7 @@ use Rattle.std.proofs.Common.{◌≡◌, ℕ, List, Vec, Global, length, ◌∙�
 use Rattle.std.proofs.lemmas.List.{length-map}
 use Rattle.std.proofs.lemmas.Result.{err_from_is_err_and}
 use Rattle.serde_json.specs.View.{view}
-use Rattle.bx_forms.specs.declared.table.TheConstants.{FORMS}
+use Rattle.bx_forms.specs.Forms.{form_count}
 use Rattle.bx_library.specs.declared.dot.Dot.{Dot}
 use Rattle.bx_library.specs.Alike.{AreSame, HasSamePair}
 use Rattle.bx_library.specs.Drawn.{lists_of}
@@ -37,7 +37,7 @@ pub returns-clause-found : goal.returns-clause-found
 returns-clause-found c =
     let is : IsRead (view c.args.value.now) c.in_ok-fields.fields.width c.in_ok-fields.fields.height (view c.in_ok-fields.fields.forms.now) =
     record { width = c.in_ok-fields.ensures.width; height = c.in_ok-fields.ensures.height; forms = c.in_ok-fields.ensures.forms; free = c.in_ok-fields.ensures.free } in
-    let count : length (lists_of c.in_ok-dots.dots.items) ≡ length FORMS = length-map c.in_ok-dots.dots.items (λ (v : Vec Dot Global). v.items) ∙ c.in_ok-dots.ensures.count in
+    let count : length (lists_of c.in_ok-dots.dots.items) ≡ form_count = length-map c.in_ok-dots.dots.items (λ (v : Vec Dot Global). v.items) ∙ c.in_ok-dots.ensures.count in
     let none = subst (λ (l : List (Vec Dot Global)). (f g : ℕ) → AreSame (lists_of l) f g → ⊥) c.deref.ensures.value c.in_ok-check_pairs.ensures.none in
     rw c.new.ensures (given (view c.args.value.now) c.in_ok-fields.fields.width c.in_ok-fields.fields.height (view c.in_ok-fields.fields.forms.now) (lists_of c.in_ok-dots.dots.items) is
     c.in_ok-check_size.ensures.free c.in_ok-check_names.ensures.free count c.in_ok-dots.ensures.drawn c.in_ok-dots.ensures.fine none)

@@ -1,6 +1,7 @@
-use Rattle.std.proofs.Common.{◌≡◌, ◌<◌, true, arith, below_more}
+use Rattle.std.proofs.Common.{◌≡◌, true, arith, below_more}
 use Rattle.std.specs.Str.{bytes_eq}
 use Rattle.std.proofs.lemmas.Slice.Eq.{bytes_eq-Decides}
+use Rattle.bx_forms.specs.Forms.{IsForm}
 use Rattle.bx_forms.proofs.Lines.{named-within}
 use Rattle.bx_forms.proofs.form.Form.by_name.Goals as goal
 
@@ -12,5 +13,5 @@ loop-number-preserved c = below_more _ _ c.loop-number.invariant (λ e.
 
 pub returns-clause-none : goal.returns-clause-none
 returns-clause-none c = λ none form named.
-    let low : form < 28 = named-within form _ named in
+    let low : IsForm form = named-within form _ named in
     c.loop-number.invariant form (omega arith) named

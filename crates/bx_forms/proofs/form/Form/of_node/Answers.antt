@@ -1,4 +1,5 @@
-use Rattle.std.proofs.Common.{◌≡◌, ◌<◌, arith, below_more, true}
+use Rattle.std.proofs.Common.{◌≡◌, arith, below_more, true}
+use Rattle.bx_forms.specs.Forms.{IsForm}
 use Rattle.bx_forms.proofs.Nodes.{form-told, told-form, node-within}
 use Rattle.bx_forms.proofs.form.Form.of_node.Goals as goal
 
@@ -11,5 +12,5 @@ loop-number-preserved c = below_more _ _ c.loop-number.invariant (λ is. let yes
 
 pub returns-clause-none : goal.returns-clause-none
 returns-clause-none c = λ none form is.
-    let low : form < 28 = node-within form _ is.uses.node in
+    let low : IsForm form = node-within form _ is.uses.node in
     c.loop-number.invariant form (omega arith) (told-form _ _ _ _ _ _ form c.is_some.ensures c.is_some-2.ensures is)

@@ -1,11 +1,11 @@
-use Rattle.std.proofs.Common.{◌<◌, ◌≡◌, ℕ, List, Bor, ap, arith}
+use Rattle.std.proofs.Common.{◌≡◌, ℕ, List, Bor, ap, arith}
 use Rattle.bx_forms.specs.declared.table.Shape.{Shape}
-use Rattle.bx_forms.specs.Forms.{shape_of}
+use Rattle.bx_forms.specs.Forms.{IsForm, shape_of}
 use Rattle.bx_forms.proofs.Lines.{get_or-map, get_or-slice_get}
 use Rattle.bx_forms.proofs.form.Form.shape.Goals as goal
 
 pub returns : goal.returns
 returns c =
-    let h : c.from.result < 28 = omega arith in
+    let h : IsForm c.from.result = omega arith in
     let e : c.from.result ≡ c.args.self = omega arith in
     rw (get_or-map (λ (line : Bor (List ℕ) × Shape). line.1), get_or-slice_get) (ap shape_of e)

@@ -1,11 +1,15 @@
 -- Clauses, and formulas in conjunctive normal form.
-use Rattle.std.specs.Prelude.{ℕ, ◌^◌, ◌<◌, ◌≤◌, Bool, List, [], ◌∷◌, length, All, Any, ⊤}
+use Rattle.std.specs.Prelude.{ℕ, ◌^◌, ◌<◌, ◌≤◌, Bool, List, [], ◌∷◌, ◌++◌, length, All, Any, ⊤}
 use Rattle.bx_cnf.specs.Literals.{Literal, IsLiteralTrue}
 
 -- the number of variables, and the clauses, each as the list of its literals
 pub record Formula : Type 0 where
   pub vars : ℕ
   pub clauses : List (List Literal)
+
+-- the formula with a clause more, behind the others
+abbrev pub with_clause : Formula → List Literal → Formula
+with_clause f clause = record f { clauses = f.clauses ++ clause ∷ [] }
 
 -- the variables of literals go up strictly, and all are above this one
 abbrev pub AscendAbove : ℕ → List Literal → Type 0

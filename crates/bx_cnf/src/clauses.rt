@@ -1,6 +1,6 @@
 //! The store of clauses. It keeps one vector of literals and one of ends, and in its type that each
 //! clause's variables ascend strictly within the formula's.
-ghost use Rattle.std.specs.Prelude.{◌≡◌, ◌++◌, ◌-◌, ◌<◌, ◌≤◌, ◌^◌, ◌↔◌, List, [], ◌∷◌, length, slice_get, Some, OnOk, OnErr, IsTrue, All};
+ghost use Rattle.std.specs.Prelude.{◌≡◌, ◌-◌, ◌<◌, ◌≤◌, ◌^◌, ◌↔◌, List, [], ◌∷◌, length, slice_get, Some, OnOk, OnErr, IsTrue, All};
 ghost use Rattle.bx_cnf.specs.Formulas.{IsClause, IsClauseTrue, AllTrue};
 
 use crate::flat::Flat;
@@ -27,7 +27,7 @@ impl Model for Clauses {
 }
 
 impl Clauses {
-    ghost use Rattle.bx_cnf.specs.Formulas.{IsFormula};
+    ghost use Rattle.bx_cnf.specs.Formulas.{IsFormula, with_clause};
 
     /// A formula of this many variables and no clause. Takes no memory.
     pub fn new(alloc: Global, vars: u32) -> Self
@@ -48,7 +48,7 @@ impl Clauses {
     pub fn push(&mut self, literals: &[Lit]) -> Result<(), NoMemory>
         requires clause { IsClause self.old.vars literals.now }
         requires room { length self.old.clauses < 4294967295 }
-        ensures ok { OnOk result (self.new ≡ record self.old { clauses = self.old.clauses ++ literals.now ∷ [] }) }
+        ensures ok { OnOk result (self.new ≡ with_clause self.old literals.now) }
         ensures err { OnErr result (self.new ≡ self.old) }
     {
         self.clauses.push(literals)
@@ -68,6 +68,13 @@ impl Clauses {
         ensures formed { IsFormula self.now }
     {
         self.clauses.len() as u32
+    }
+
+    /// Whether there is a number left for one clause more.
+    pub fn has_room(&self) -> bool
+        ensures { IsTrue result ↔ (length self.now.clauses < 4294967295) }
+    {
+        self.clauses.len() < u32::MAX as usize
     }
 
     /// Whether there is no clause.

@@ -1,6 +1,6 @@
 //! A list of lists, kept in one vector of items and one of ends, so that a list more takes no
 //! allocation of its own and the items of neighbours stand side by side.
-ghost use Rattle.std.specs.Prelude.{◌≡◌, ◌++◌, ◌-◌, ◌<◌, ◌≤◌, ◌^◌, List, [], ◌∷◌, length, take, slice_get, slice_index, Some, OnOk, OnErr};
+ghost use Rattle.std.specs.Prelude.{◌≡◌, ◌+◌, ◌++◌, ◌-◌, ◌<◌, ◌≤◌, ◌^◌, ◌↔◌, List, [], ◌∷◌, length, take, slice_get, slice_index, Some, IsTrue, OnOk, OnErr};
 
 use bx_logic::NoMemory;
 use std::alloc::Global;
@@ -66,8 +66,7 @@ impl<T: Copy> Flat<T> {
         ensures ok { OnOk result (self.new ≡ self.old ++ list.now ∷ []) }
         ensures err { OnErr result (self.new ≡ self.old) }
     {
-        let room = u32::MAX as usize - self.items.len();
-        if list.len() > room {
+        if !has_room(self.items.len(), list.len()) {
             return Err(NoMemory);
         }
         self.ends.reserve(1)?;
@@ -88,6 +87,15 @@ impl<T: Drop> Flat<T> {
         self.ends.truncate(k);
         self.items.truncate(start as usize);
     }
+}
+
+// Whether so many items more leave every end within its type. Where they don't, `push` says that memory is wanting,
+// and this clause keeps it from saying so earlier.
+fn has_room(held: usize, more: usize) -> bool
+    requires { held < 2 ^ 32 }
+    ensures { IsTrue result ↔ (held + more < 2 ^ 32) }
+{
+    more <= u32::MAX as usize - held
 }
 
 // Where list k begins: at the end of the one before, and the first at 0.

@@ -25,7 +25,7 @@ impl Model for Lit {
 
     ghost use Rattle.std.proofs.Common.{ap};
 
-    ghost inverse_ok = { λ lit _. ap (λ z. record { number = z }) (number_of-literal_of lit.number) };
+    ghost inverse_ok = { λ l _. ap (λ z. record { number = z }) (number_of-literal_of l.number) };
 }
 
 impl Lit {

@@ -24,95 +24,92 @@ use Rattle.bx_decode.proofs.Clauses.{SomeTrue, clause-true, some-map, IsOn, on-o
 numbered : (n k : ℕ) → k < n → Member k (range_with_len 0 n)
 numbered n k low = Member-range 0 n k (omega arith) (omega arith)
 
+-- of each of these clauses some literal is true
+abbrev Say : List Bool → List Clause → Type 0
+Say bits cs = (c : Clause) → Member c cs → SomeTrue bits c
+
+before : (bits : List Bool) (xs ys : List Clause) → Say bits (xs ++ ys) → Say bits xs
+before bits xs ys all = λ c own. all c (Member-append_left c xs ys own)
+
+behind : (bits : List Bool) (xs ys : List Clause) → Say bits (xs ++ ys) → Say bits ys
+behind bits xs ys all = λ c own. all c (Member-append_right c xs ys own)
+
 module _ (N : Network) (permit : PermitTest) (r : Ratio) (bits : List Bool) (all : AreTrue N permit r bits) where
   -- ---- where the families stand in the formula
 
-  whole : (c : Clause) → Member c (place_clauses N r ++ border_clauses N r ++ way_clauses N r ++ is_permitted N r permit) → SomeTrue bits c
+  whole : Say bits (place_clauses N r ++ border_clauses N r ++ way_clauses N r ++ is_permitted N r permit)
   unfolding formula
   whole c own = clause-true bits (place_clauses N r ++ border_clauses N r ++ way_clauses N r ++ is_permitted N r permit) c all own
 
-  of-places : (c : Clause) → Member c (place_clauses N r) → SomeTrue bits c
-  of-places c own =
-      whole c (Member-append_left c (place_clauses N r ++ border_clauses N r ++ way_clauses N r) (is_permitted N r permit)
-      (Member-append_left c (place_clauses N r ++ border_clauses N r) (way_clauses N r) (Member-append_left c (place_clauses N r) (border_clauses N r) own)))
+  pub of-permitted : Say bits (is_permitted N r permit)
+  of-permitted = behind bits (place_clauses N r ++ border_clauses N r ++ way_clauses N r) (is_permitted N r permit) whole
 
-  of-borders : (c : Clause) → Member c (border_clauses N r) → SomeTrue bits c
-  of-borders c own =
-      whole c (Member-append_left c (place_clauses N r ++ border_clauses N r ++ way_clauses N r) (is_permitted N r permit)
-      (Member-append_left c (place_clauses N r ++ border_clauses N r) (way_clauses N r) (Member-append_right c (place_clauses N r) (border_clauses N r) own)))
+  but-forms : Say bits (place_clauses N r ++ border_clauses N r ++ way_clauses N r)
+  but-forms = before bits (place_clauses N r ++ border_clauses N r ++ way_clauses N r) (is_permitted N r permit) whole
 
-  of-ways : (c : Clause) → Member c (way_clauses N r) → SomeTrue bits c
-  of-ways c own =
-      whole c (Member-append_left c (place_clauses N r ++ border_clauses N r ++ way_clauses N r) (is_permitted N r permit)
-      (Member-append_right c (place_clauses N r ++ border_clauses N r) (way_clauses N r) own))
+  of-ways : Say bits (way_clauses N r)
+  of-ways = behind bits (place_clauses N r ++ border_clauses N r) (way_clauses N r) but-forms
 
-  pub of-permitted : (c : Clause) → Member c (is_permitted N r permit) → SomeTrue bits c
-  of-permitted c own = whole c (Member-append_right c (place_clauses N r ++ border_clauses N r ++ way_clauses N r) (is_permitted N r permit) own)
+  of-places : Say bits (place_clauses N r)
+  of-places = before bits (place_clauses N r) (border_clauses N r) (before bits (place_clauses N r ++ border_clauses N r) (way_clauses N r) but-forms)
 
-  of-somewhere : (c : Clause) → Member c (stands_somewhere N r) → SomeTrue bits c
+  of-borders : Say bits (border_clauses N r)
+  of-borders = behind bits (place_clauses N r) (border_clauses N r) (before bits (place_clauses N r ++ border_clauses N r) (way_clauses N r) but-forms)
+
+  of-window : Say bits (keeps_its_window N r)
   unfolding place_clauses
-  of-somewhere c own =
-      of-places c (Member-append_left c (stands_somewhere N r ++ stands_once N r ++ stands_apart N r ++ takes_its_tile N r) (keeps_its_window N r)
-      (Member-append_left c (stands_somewhere N r ++ stands_once N r ++ stands_apart N r) (takes_its_tile N r)
-      (Member-append_left c (stands_somewhere N r ++ stands_once N r) (stands_apart N r) (Member-append_left c (stands_somewhere N r) (stands_once N r) own))))
+  of-window = behind bits (stands_somewhere N r ++ stands_once N r ++ stands_apart N r ++ takes_its_tile N r) (keeps_its_window N r) of-places
 
-  of-once : (c : Clause) → Member c (stands_once N r) → SomeTrue bits c
+  but-window : Say bits (stands_somewhere N r ++ stands_once N r ++ stands_apart N r ++ takes_its_tile N r)
   unfolding place_clauses
-  of-once c own =
-      of-places c (Member-append_left c (stands_somewhere N r ++ stands_once N r ++ stands_apart N r ++ takes_its_tile N r) (keeps_its_window N r)
-      (Member-append_left c (stands_somewhere N r ++ stands_once N r ++ stands_apart N r) (takes_its_tile N r)
-      (Member-append_left c (stands_somewhere N r ++ stands_once N r) (stands_apart N r) (Member-append_right c (stands_somewhere N r) (stands_once N r) own))))
+  but-window = before bits (stands_somewhere N r ++ stands_once N r ++ stands_apart N r ++ takes_its_tile N r) (keeps_its_window N r) of-places
 
-  of-apart : (c : Clause) → Member c (stands_apart N r) → SomeTrue bits c
-  unfolding place_clauses
-  of-apart c own =
-      of-places c (Member-append_left c (stands_somewhere N r ++ stands_once N r ++ stands_apart N r ++ takes_its_tile N r) (keeps_its_window N r)
-      (Member-append_left c (stands_somewhere N r ++ stands_once N r ++ stands_apart N r) (takes_its_tile N r)
-      (Member-append_right c (stands_somewhere N r ++ stands_once N r) (stands_apart N r) own)))
+  of-taken : Say bits (takes_its_tile N r)
+  of-taken = behind bits (stands_somewhere N r ++ stands_once N r ++ stands_apart N r) (takes_its_tile N r) but-window
 
-  of-taken : (c : Clause) → Member c (takes_its_tile N r) → SomeTrue bits c
-  unfolding place_clauses
-  of-taken c own =
-      of-places c (Member-append_left c (stands_somewhere N r ++ stands_once N r ++ stands_apart N r ++ takes_its_tile N r) (keeps_its_window N r)
-      (Member-append_right c (stands_somewhere N r ++ stands_once N r ++ stands_apart N r) (takes_its_tile N r) own))
+  but-taken : Say bits (stands_somewhere N r ++ stands_once N r ++ stands_apart N r)
+  but-taken = before bits (stands_somewhere N r ++ stands_once N r ++ stands_apart N r) (takes_its_tile N r) but-window
 
-  of-window : (c : Clause) → Member c (keeps_its_window N r) → SomeTrue bits c
-  unfolding place_clauses
-  of-window c own = of-places c (Member-append_right c (stands_somewhere N r ++ stands_once N r ++ stands_apart N r ++ takes_its_tile N r) (keeps_its_window N r) own)
+  of-apart : Say bits (stands_apart N r)
+  of-apart = behind bits (stands_somewhere N r ++ stands_once N r) (stands_apart N r) but-taken
 
-  of-stays : (c : Clause) → Member c (stays_on_grid N r) → SomeTrue bits c
+  of-once : Say bits (stands_once N r)
+  of-once = behind bits (stands_somewhere N r) (stands_once N r) (before bits (stands_somewhere N r ++ stands_once N r) (stands_apart N r) but-taken)
+
+  of-somewhere : Say bits (stands_somewhere N r)
+  of-somewhere = before bits (stands_somewhere N r) (stands_once N r) (before bits (stands_somewhere N r ++ stands_once N r) (stands_apart N r) but-taken)
+
+  of-used : Say bits (is_used N r)
   unfolding border_clauses
-  of-stays c own = of-borders c (Member-append_left c (stays_on_grid N r ++ carries_once N r) (is_used N r) (Member-append_left c (stays_on_grid N r) (carries_once N r) own))
+  of-used = behind bits (stays_on_grid N r ++ carries_once N r) (is_used N r) of-borders
 
-  of-carries : (c : Clause) → Member c (carries_once N r) → SomeTrue bits c
+  but-used : Say bits (stays_on_grid N r ++ carries_once N r)
   unfolding border_clauses
-  of-carries c own = of-borders c (Member-append_left c (stays_on_grid N r ++ carries_once N r) (is_used N r) (Member-append_right c (stays_on_grid N r) (carries_once N r) own))
+  but-used = before bits (stays_on_grid N r ++ carries_once N r) (is_used N r) of-borders
 
-  of-used : (c : Clause) → Member c (is_used N r) → SomeTrue bits c
-  unfolding border_clauses
-  of-used c own = of-borders c (Member-append_right c (stays_on_grid N r ++ carries_once N r) (is_used N r) own)
+  of-carries : Say bits (carries_once N r)
+  of-carries = behind bits (stays_on_grid N r) (carries_once N r) but-used
 
-  in-ways : (rule : Rule) (c : Clause) → Member c (keeps_rule N r rule) → Member c (way_clauses N r)
+  of-stays : Say bits (stays_on_grid N r)
+  of-stays = before bits (stays_on_grid N r) (carries_once N r) but-used
+
+  -- those of the first two rules, three and four
+  abbrev two : List Clause
+  two = keeps_rule N r ComesFromAbove ++ keeps_rule N r GoesOnBelow
+
+  abbrev three : List Clause
+  three = two ++ keeps_rule N r JoinsItsEnds
+
+  abbrev four : List Clause
+  four = three ++ keeps_rule N r GoesOneWay
+
+  of-ruled : (rule : Rule) → Say bits (keeps_rule N r rule)
   unfolding way_clauses
-  in-ways ComesFromAbove c own =
-      Member-append_left c (keeps_rule N r ComesFromAbove ++ keeps_rule N r GoesOnBelow ++ keeps_rule N r JoinsItsEnds ++ keeps_rule N r GoesOneWay) (keeps_rule N r KeepsOffNodes)
-      (Member-append_left c (keeps_rule N r ComesFromAbove ++ keeps_rule N r GoesOnBelow ++ keeps_rule N r JoinsItsEnds) (keeps_rule N r GoesOneWay)
-      (Member-append_left c (keeps_rule N r ComesFromAbove ++ keeps_rule N r GoesOnBelow) (keeps_rule N r JoinsItsEnds)
-      (Member-append_left c (keeps_rule N r ComesFromAbove) (keeps_rule N r GoesOnBelow) own)))
-  in-ways GoesOnBelow c own =
-      Member-append_left c (keeps_rule N r ComesFromAbove ++ keeps_rule N r GoesOnBelow ++ keeps_rule N r JoinsItsEnds ++ keeps_rule N r GoesOneWay) (keeps_rule N r KeepsOffNodes)
-      (Member-append_left c (keeps_rule N r ComesFromAbove ++ keeps_rule N r GoesOnBelow ++ keeps_rule N r JoinsItsEnds) (keeps_rule N r GoesOneWay)
-      (Member-append_left c (keeps_rule N r ComesFromAbove ++ keeps_rule N r GoesOnBelow) (keeps_rule N r JoinsItsEnds)
-      (Member-append_right c (keeps_rule N r ComesFromAbove) (keeps_rule N r GoesOnBelow) own)))
-  in-ways JoinsItsEnds c own =
-      Member-append_left c (keeps_rule N r ComesFromAbove ++ keeps_rule N r GoesOnBelow ++ keeps_rule N r JoinsItsEnds ++ keeps_rule N r GoesOneWay) (keeps_rule N r KeepsOffNodes)
-      (Member-append_left c (keeps_rule N r ComesFromAbove ++ keeps_rule N r GoesOnBelow ++ keeps_rule N r JoinsItsEnds) (keeps_rule N r GoesOneWay)
-      (Member-append_right c (keeps_rule N r ComesFromAbove ++ keeps_rule N r GoesOnBelow) (keeps_rule N r JoinsItsEnds) own))
-  in-ways GoesOneWay c own =
-      Member-append_left c (keeps_rule N r ComesFromAbove ++ keeps_rule N r GoesOnBelow ++ keeps_rule N r JoinsItsEnds ++ keeps_rule N r GoesOneWay) (keeps_rule N r KeepsOffNodes)
-      (Member-append_right c (keeps_rule N r ComesFromAbove ++ keeps_rule N r GoesOnBelow ++ keeps_rule N r JoinsItsEnds) (keeps_rule N r GoesOneWay) own)
-  in-ways KeepsOffNodes c own =
-      Member-append_right c (keeps_rule N r ComesFromAbove ++ keeps_rule N r GoesOnBelow ++ keeps_rule N r JoinsItsEnds ++ keeps_rule N r GoesOneWay) (keeps_rule N r KeepsOffNodes) own
+  of-ruled KeepsOffNodes = behind bits four (keeps_rule N r KeepsOffNodes) of-ways
+  of-ruled GoesOneWay = behind bits three (keeps_rule N r GoesOneWay) (before bits four (keeps_rule N r KeepsOffNodes) of-ways)
+  of-ruled JoinsItsEnds = behind bits two (keeps_rule N r JoinsItsEnds) (before bits three (keeps_rule N r GoesOneWay) (before bits four (keeps_rule N r KeepsOffNodes) of-ways))
+  of-ruled GoesOnBelow = behind bits (keeps_rule N r ComesFromAbove) (keeps_rule N r GoesOnBelow) (before bits two (keeps_rule N r JoinsItsEnds) (before bits three (keeps_rule N r GoesOneWay) (before bits four (keeps_rule N r KeepsOffNodes) of-ways)))
+  of-ruled ComesFromAbove = before bits (keeps_rule N r ComesFromAbove) (keeps_rule N r GoesOnBelow) (before bits two (keeps_rule N r JoinsItsEnds) (before bits three (keeps_rule N r GoesOneWay) (before bits four (keeps_rule N r KeepsOffNodes) of-ways)))
 
   in-rule : (rule : Rule) (t e : ℕ) (c : Clause) → IsTile r t → e < length N.edges → Member c (rule_clauses N r rule t e) → Member c (keeps_rule N r rule)
   unfolding keeps_rule
@@ -121,7 +118,7 @@ module _ (N : Network) (permit : PermitTest) (r : Ratio) (bits : List Bool) (all
       (Member-flat_map (rule_clauses N r rule t) e c (edges N r) (numbered (length N.edges) e edge) own)
 
   pub of-rule : (rule : Rule) (t e : ℕ) (c : Clause) → IsTile r t → e < length N.edges → Member c (rule_clauses N r rule t e) → SomeTrue bits c
-  of-rule rule t e c tile edge own = of-ways c (in-ways rule c (in-rule rule t e c tile edge own))
+  of-rule rule t e c tile edge own = of-ruled rule c (in-rule rule t e c tile edge own)
 
   -- ---- what each family says
 

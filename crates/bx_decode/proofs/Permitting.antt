@@ -26,15 +26,15 @@ use Rattle.bx_network.specs.Networks.{Network, IsNetwork}
 use Rattle.bx_network.proofs.Lists.{got-at}
 use Rattle.bx_encode.specs.declared.variable.Variable.TheVariants.{NodeOn, Taken, Used, EdgeOn}
 use Rattle.bx_encode.specs.Variables.{border_count, number, is, isnt}
-use Rattle.bx_encode.specs.Families.{Clause, each, nodes, edges, tiles, listed, has_kind, kind_number, used_side, bars_node, bars, is_permitted}
-use Rattle.bx_encode.proofs.Barring.{told, wire_list, wire-is, two-is, one-is, holding-is, entering-in}
+use Rattle.bx_encode.specs.Families.{Clause, each, nodes, edges, tiles, list_of, has_kind, kind_number, used_side, used_unlike, bars_node, bars, is_permitted}
+use Rattle.bx_encode.proofs.Barring.{wire_list, wire-is, two-is, one-is, holding-is, entering-in}
 use Rattle.bx_decode.specs.Meaning.{AreTrue, Means}
 use Rattle.bx_decode.proofs.Clauses.{SomeTrue, some-append, IsOn, not-both, not-three}
 use Rattle.bx_decode.proofs.Families.{of-permitted, uses-it, used-by}
-use Rattle.bx_decode.proofs.Sides.{listed-has, enters-by}
+use Rattle.bx_decode.proofs.Sides.{list_of-has, enters-by}
 use Rattle.bx_decode.proofs.Placing.{node-set, edge-set, placed}
 use Rattle.bx_decode.proofs.Balancing.{not-twice-out, ended-there}
-use Rattle.bx_decode.proofs.Table.{some_used, both_used, known_by, as_many, fits, line-fits, holding-within, used-itself, left-alone, right-alone, both-below, one-each}
+use Rattle.bx_decode.proofs.Table.{any_side, both_sides, known_by, as_many, fits, line-fits, holding-within, used-itself, left-alone, right-alone, both-below, one-each}
 
 numbered : (n k : ℕ) → k < n → Member k (range_with_len 0 n)
 numbered n k low = Member-range 0 n k (omega arith) (omega arith)
@@ -114,16 +114,16 @@ module _ (N : Network) (permit : PermitTest) (L : Layout) (bits : List Bool) (ne
   barred Output v upper lower known says above below on =
       let (a, enter, used) = above (used_side upper) (used-itself upper known) in
       not-both N L.ratio bits (NodeOn v t) (Used a)
-      (says _ (Member-map (λ b. isnt N L.ratio (NodeOn v t) ∷ isnt N L.ratio (Used b) ∷ []) a (listed (entering L.ratio t (used_side upper))) (listed-has _ a enter))) on used
+      (says _ (Member-map (λ b. isnt N L.ratio (NodeOn v t) ∷ isnt N L.ratio (Used b) ∷ []) a (list_of (entering L.ratio t (used_side upper))) (list_of-has _ a enter))) on used
   barred Fan v upper lower known says above below on =
       let (a, enter, used) = above (used_side upper) (used-itself upper known) in
       not-both N L.ratio bits (NodeOn v t) (Used a)
-      (says _ (Member-map (λ b. isnt N L.ratio (NodeOn v t) ∷ isnt N L.ratio (Used b) ∷ []) a (listed (entering L.ratio t (used_side upper))) (listed-has _ a enter))) on used
+      (says _ (Member-map (λ b. isnt N L.ratio (NodeOn v t) ∷ isnt N L.ratio (Used b) ∷ []) a (list_of (entering L.ratio t (used_side upper))) (list_of-has _ a enter))) on used
   barred Not v upper lower known says above below on =
-      let (a, enter, used) = above (used_side upper) (used-itself upper (and-left (some_used upper) (some_used lower) known)) in
-      let out = below (used_side lower) (used-itself lower (and-right (some_used upper) (some_used lower) known)) in
+      let (a, enter, used) = above (used_side upper) (used-itself upper (and-left (any_side upper) (any_side lower) known)) in
+      let out = below (used_side lower) (used-itself lower (and-right (any_side upper) (any_side lower) known)) in
       not-three N L.ratio bits (NodeOn v t) (Used a) (Used (border t (used_side lower)))
-      (says _ (Member-map (λ b. isnt N L.ratio (NodeOn v t) ∷ isnt N L.ratio (Used b) ∷ isnt N L.ratio (Used (border t (used_side lower))) ∷ []) a (listed (entering L.ratio t (used_side upper))) (listed-has _ a enter))) on used out
+      (says _ (Member-map (λ b. isnt N L.ratio (NodeOn v t) ∷ isnt N L.ratio (Used b) ∷ isnt N L.ratio (Used (border t (used_side lower))) ∷ []) a (list_of (entering L.ratio t (used_side upper))) (list_of-has _ a enter))) on used out
   barred _ v upper lower known says above below on =
       not-both N L.ratio bits (NodeOn v t) (Used (border t (used_side lower))) (says _ (inl refl)) on (below (used_side lower) (used-itself lower known))
 
@@ -176,7 +176,7 @@ module _ (N : Network) (permit : PermitTest) (L : Layout) (bits : List Bool) (ne
       let at = got-at N.edges e (leaving-is N L (placed N permit L bits all means) t e Left out) in
       absurd (not-twice-out N permit L bits network all means t e at.item tile at.at out (leave ∙ ap Some same))
 
-  no-two-form : (form : ℕ) → permit L.ratio t form ≡ false → HasWireForm L t form → both_used (form_upper form) ≡ true → ⊥
+  no-two-form : (form : ℕ) → permit L.ratio t form ≡ false → HasWireForm L t form → both_sides (form_upper form) ≡ true → ⊥
   no-two-form form off has both =
       let wire = has.wire_of in
       let many : as_many (form_upper form) (form_lower form) ≡ true = sym (ap (λ o. fits o (form_upper form) (form_lower form)) wire.holds_none) ∙ line-fits form wire.form in
@@ -192,15 +192,15 @@ module _ (N : Network) (permit : PermitTest) (L : Layout) (bits : List Bool) (ne
       let clause : Clause = isnt N L.ratio (Used other.border) ∷ isnt N L.ratio (EdgeOn e by.border) ∷ isnt N L.ratio (EdgeOn e (border t way)) ∷ [] in
       not-three N L.ratio bits (Used other.border) (EdgeOn e by.border) (EdgeOn e (border t way))
       (of-bars form clause wire.form off (subst (λ (cs : List Clause). Member clause cs) (two-is N L.ratio t form way wire.form wire.holds_none both refl)
-      (Member-flat_map (λ a. each (listed (entering L.ratio t Right)) (λ b. map (λ d. isnt N L.ratio (Used b) ∷ isnt N L.ratio (EdgeOn d a) ∷ isnt N L.ratio (EdgeOn d (border t way)) ∷ []) (edges N L.ratio))) by.border clause (listed (entering L.ratio t Left)) (listed-has (entering L.ratio t Left) by.border by.is)
-      (Member-flat_map (λ b. map (λ d. isnt N L.ratio (Used b) ∷ isnt N L.ratio (EdgeOn d by.border) ∷ isnt N L.ratio (EdgeOn d (border t way)) ∷ []) (edges N L.ratio)) other.border clause (listed (entering L.ratio t Right)) (listed-has (entering L.ratio t Right) other.border other.is)
+      (Member-flat_map (λ a. each (list_of (entering L.ratio t Right)) (λ b. map (λ d. isnt N L.ratio (Used b) ∷ isnt N L.ratio (EdgeOn d a) ∷ isnt N L.ratio (EdgeOn d (border t way)) ∷ []) (edges N L.ratio))) by.border clause (list_of (entering L.ratio t Left)) (list_of-has (entering L.ratio t Left) by.border by.is)
+      (Member-flat_map (λ b. map (λ d. isnt N L.ratio (Used b) ∷ isnt N L.ratio (EdgeOn d by.border) ∷ isnt N L.ratio (EdgeOn d (border t way)) ∷ []) (edges N L.ratio)) other.border clause (list_of (entering L.ratio t Right)) (list_of-has (entering L.ratio t Right) other.border other.is)
       (Member-map (λ d. isnt N L.ratio (Used other.border) ∷ isnt N L.ratio (EdgeOn d by.border) ∷ isnt N L.ratio (EdgeOn d (border t way)) ∷ []) e (edges N L.ratio) (numbered (length N.edges) e edge))))))
       (carrying-used other.border f other.carries) on below
 
   -- ---- a wire
 
   -- of a border that is used as told no literal is true
-  told-off : (o : Option ℕ) (u : Bool) → ((b : ℕ) → o ≡ Some b → value_of bits (number N L.ratio (Used b)) ≡ u) → SomeTrue bits (told N L.ratio o u) → ⊥
+  told-off : (o : Option ℕ) (u : Bool) → ((b : ℕ) → o ≡ Some b → value_of bits (number N L.ratio (Used b)) ≡ u) → SomeTrue bits (used_unlike N L.ratio o u) → ⊥
   told-off None u is h = h
   told-off (Some b) u is (inl on) = neither u (sym (is b refl) ∙ on)
     where
@@ -232,22 +232,22 @@ module _ (N : Network) (permit : PermitTest) (L : Layout) (bits : List Bool) (ne
       ]
     where
       x : List Literal
-      x = told N L.ratio (entering L.ratio t Left) (on_side true false upper)
+      x = used_unlike N L.ratio (entering L.ratio t Left) (on_side true false upper)
 
       y : List Literal
-      y = told N L.ratio (entering L.ratio t Right) (not (on_side true false upper))
+      y = used_unlike N L.ratio (entering L.ratio t Right) (not (on_side true false upper))
 
       z : List Literal
-      z = told N L.ratio (Some (border t Left)) (on_side true false lower)
+      z = used_unlike N L.ratio (Some (border t Left)) (on_side true false lower)
 
       w : List Literal
-      w = told N L.ratio (Some (border t Right)) (not (on_side true false lower))
+      w = used_unlike N L.ratio (Some (border t Right)) (not (on_side true false lower))
 
       taken : SomeTrue bits (is N L.ratio (Taken t) ∷ []) → IsOn N L.ratio bits (Taken t)
       taken (inl on) = on
       taken (inr none) = absurd none
 
-  no-one-form : (form : ℕ) → permit L.ratio t form ≡ false → HasWireForm L t form → both_used (form_upper form) ≡ false → ⊥
+  no-one-form : (form : ℕ) → permit L.ratio t form ≡ false → HasWireForm L t form → both_sides (form_upper form) ≡ false → ⊥
   no-one-form form off has one =
       let wire = has.wire_of in
       let many : as_many (form_upper form) (form_lower form) ≡ true = sym (ap (λ o. fits o (form_upper form) (form_lower form)) wire.holds_none) ∙ line-fits form wire.form in
@@ -268,7 +268,7 @@ module _ (N : Network) (permit : PermitTest) (L : Layout) (bits : List Bool) (ne
       has.free at.item.target (ended-there N permit L bits network all means t e at.item tile at.at upper taken come)
 
   no-wire-form : (form : ℕ) → permit L.ratio t form ≡ false → HasWireForm L t form → ⊥
-  no-wire-form form off has = elim (cases_Bool (both_used (form_upper form))) [
+  no-wire-form form off has = elim (cases_Bool (both_sides (form_upper form))) [
     | inl both ↦ no-two-form form off has both
     | inr one ↦ no-one-form form off has one
   ]

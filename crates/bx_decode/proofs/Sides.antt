@@ -11,7 +11,7 @@ use Rattle.bx_layout.specs.Layouts.{edge_on, enters}
 use Rattle.bx_network.specs.Networks.{Network}
 use Rattle.bx_encode.specs.declared.variable.Variable.TheVariants.{EdgeOn}
 use Rattle.bx_encode.specs.Variables.{isnt}
-use Rattle.bx_encode.specs.Families.{listed, pairs, entries, exits}
+use Rattle.bx_encode.specs.Families.{list_of, pairs, entries, exits}
 
 pub exit-of : (N : Network) (r : Ratio) (t : ℕ) (side : Side) → Member (border t side) (exits N r t)
 exit-of N r t Left = inl refl
@@ -22,22 +22,22 @@ exit-side N r t b (inl e) = (Left, e)
 exit-side N r t b (inr (inl e)) = (Right, e)
 exit-side N r t b (inr (inr h)) = absurd h
 
-pub listed-has : (o : Option ℕ) (b : ℕ) → o ≡ Some b → Member b (listed o)
-listed-has o b e = subst (λ (p : Option ℕ). Member b (listed p)) (sym e) (inl refl)
+pub list_of-has : (o : Option ℕ) (b : ℕ) → o ≡ Some b → Member b (list_of o)
+list_of-has o b e = subst (λ (p : Option ℕ). Member b (list_of p)) (sym e) (inl refl)
 
-listed-is : (o : Option ℕ) (b : ℕ) → Member b (listed o) → o ≡ Some b
-listed-is None b h = absurd h
-listed-is (Some a) b (inl e) = ap Some e
-listed-is (Some a) b (inr h) = absurd h
+list_of-is : (o : Option ℕ) (b : ℕ) → Member b (list_of o) → o ≡ Some b
+list_of-is None b h = absurd h
+list_of-is (Some a) b (inl e) = ap Some e
+list_of-is (Some a) b (inr h) = absurd h
 
 pub entry-of : (N : Network) (r : Ratio) (t b : ℕ) (side : Side) → entering r t side ≡ Some b → Member b (entries N r t)
-entry-of N r t b Left e = Member-append_left b (listed (entering r t Left)) (listed (entering r t Right)) (listed-has (entering r t Left) b e)
-entry-of N r t b Right e = Member-append_right b (listed (entering r t Left)) (listed (entering r t Right)) (listed-has (entering r t Right) b e)
+entry-of N r t b Left e = Member-append_left b (list_of (entering r t Left)) (list_of (entering r t Right)) (list_of-has (entering r t Left) b e)
+entry-of N r t b Right e = Member-append_right b (list_of (entering r t Left)) (list_of (entering r t Right)) (list_of-has (entering r t Right) b e)
 
 pub entry-side : (N : Network) (r : Ratio) (t b : ℕ) → Member b (entries N r t) → (side : Side) × (entering r t side ≡ Some b)
-entry-side N r t b m = elim (Member-append_cases b (listed (entering r t Left)) (listed (entering r t Right)) m) [
-  | inl left ↦ (Left, listed-is (entering r t Left) b left)
-  | inr right ↦ (Right, listed-is (entering r t Right) b right)
+entry-side N r t b m = elim (Member-append_cases b (list_of (entering r t Left)) (list_of (entering r t Right)) m) [
+  | inl left ↦ (Left, list_of-is (entering r t Left) b left)
+  | inr right ↦ (Right, list_of-is (entering r t Right) b right)
 ]
 
 -- the two sides of a tile are a pair
@@ -48,10 +48,10 @@ pub entry-pair : (N : Network) (r : Ratio) (t e a b : ℕ) → entering r t Left
     Member (isnt N r (EdgeOn e a) ∷ isnt N r (EdgeOn e b) ∷ []) (pairs (map (λ c. isnt N r (EdgeOn e c)) (entries N r t)))
 entry-pair N r t e a b left right = by (entering r t Left) (entering r t Right) left right
   where
-    by : (o p : Option ℕ) → o ≡ Some a → p ≡ Some b → Member (isnt N r (EdgeOn e a) ∷ isnt N r (EdgeOn e b) ∷ []) (pairs (map (λ c. isnt N r (EdgeOn e c)) (listed o ++ listed p)))
+    by : (o p : Option ℕ) → o ≡ Some a → p ≡ Some b → Member (isnt N r (EdgeOn e a) ∷ isnt N r (EdgeOn e b) ∷ []) (pairs (map (λ c. isnt N r (EdgeOn e c)) (list_of o ++ list_of p)))
     by o p x y =
-        subst (λ (q : Option ℕ). Member (isnt N r (EdgeOn e a) ∷ isnt N r (EdgeOn e b) ∷ []) (pairs (map (λ c. isnt N r (EdgeOn e c)) (listed q ++ listed p)))) (sym x)
-        (subst (λ (q : Option ℕ). Member (isnt N r (EdgeOn e a) ∷ isnt N r (EdgeOn e b) ∷ []) (pairs (map (λ c. isnt N r (EdgeOn e c)) (listed (Some a) ++ listed q)))) (sym y) (inl refl))
+        subst (λ (q : Option ℕ). Member (isnt N r (EdgeOn e a) ∷ isnt N r (EdgeOn e b) ∷ []) (pairs (map (λ c. isnt N r (EdgeOn e c)) (list_of q ++ list_of p)))) (sym x)
+        (subst (λ (q : Option ℕ). Member (isnt N r (EdgeOn e a) ∷ isnt N r (EdgeOn e b) ∷ []) (pairs (map (λ c. isnt N r (EdgeOn e c)) (list_of (Some a) ++ list_of q)))) (sym y) (inl refl))
 
 -- ---- on a layout
 

@@ -15,33 +15,41 @@ ghost use Rattle.bx_network.specs.Networks.{Network, IsNetwork};
 
 /// A layout that true bits mean is legal, under the permit of their formula.
 pub fn true_bits_are_a_legal_layout()
-    ensures { (N : Network) (permit : PermitTest) (r : Ratio) (bits : List Bool) (L : Layout) → IsNetwork N → IsGrid r
+    ensures { (N : Network) (permit : PermitTest) (r : Ratio) (bits : List Bool) (L : Layout)
+        → IsNetwork N → IsGrid r
         → AreTrue N permit r bits → Means N r bits L → IsLegal N permit L }
 {}
 
 /// True bits mean a layout, and no bits mean two.
 pub fn true_bits_mean_one_layout()
-    ensures some { (N : Network) (permit : PermitTest) (r : Ratio) (bits : List Bool) → AreTrue N permit r bits → (L : Layout) × Means N r bits L }
-    ensures one { (N : Network) (r : Ratio) (bits : List Bool) (L M : Layout) → Means N r bits L → Means N r bits M → L ≡ M }
+    ensures some { (N : Network) (permit : PermitTest) (r : Ratio) (bits : List Bool)
+        → AreTrue N permit r bits → (L : Layout) × Means N r bits L }
+    ensures one { (N : Network) (r : Ratio) (bits : List Bool) (L M : Layout)
+        → Means N r bits L → Means N r bits M → L ≡ M }
 {}
 
 /// The bits of a legal layout mean that layout and no other: decoding them gives it back.
 pub fn the_bits_of_a_layout_mean_it()
-    ensures own { (N : Network) (permit : PermitTest) (L : Layout) (bits : List Bool) → IsLegal N permit L → AreBitsOf N L bits → Means N L.ratio bits L }
-    ensures no_other { (N : Network) (permit : PermitTest) (L M : Layout) (bits : List Bool) → IsLegal N permit L → AreBitsOf N L bits → Means N L.ratio bits M → M ≡ L }
+    ensures own { (N : Network) (permit : PermitTest) (L : Layout) (bits : List Bool)
+        → IsLegal N permit L → AreBitsOf N L bits → Means N L.ratio bits L }
+    ensures no_other { (N : Network) (permit : PermitTest) (L M : Layout) (bits : List Bool)
+        → IsLegal N permit L → AreBitsOf N L bits → Means N L.ratio bits M → M ≡ L }
 {}
 
 /// Bits that agree on where nodes stand and on which border an edge is mean the same, whatever they say of
 /// taken tiles and of used borders.
 pub fn taken_tiles_and_used_borders_mean_nothing()
     ensures { (N : Network) (r : Ratio) (bits other : List Bool) (L : Layout)
-        → ((v t : ℕ) → value_of bits (number N r (NodeOn v t)) ≡ value_of other (number N r (NodeOn v t)))
-        → ((e b : ℕ) → value_of bits (number N r (EdgeOn e b)) ≡ value_of other (number N r (EdgeOn e b)))
+        → ((v t : ℕ) → value_of bits (number N r (NodeOn v t))
+        ≡ value_of other (number N r (NodeOn v t)))
+        → ((e b : ℕ) → value_of bits (number N r (EdgeOn e b))
+        ≡ value_of other (number N r (EdgeOn e b)))
         → Means N r bits L → Means N r other L }
 {}
 
 /// The formula of a ratio has a solution exactly where a layout of that ratio is legal under its permit.
 pub fn a_formula_has_a_solution_exactly_where_a_legal_layout_exists()
     ensures { (N : Network) (permit : PermitTest) (r : Ratio) → IsNetwork N → IsGrid r
-        → ((bits : List Bool) × AreTrue N permit r bits) ↔ ((L : Layout) × (L.ratio ≡ r) × IsLegal N permit L) }
+        → ((bits : List Bool) × AreTrue N permit r bits)
+        ↔ ((L : Layout) × (L.ratio ≡ r) × IsLegal N permit L) }
 {}

@@ -5,13 +5,13 @@ ghost use Rattle.bx_cnf.specs.Literals.{value_of};
 ghost use Rattle.bx_decode.specs.Meaning.{AreTrue, IsSet, Means};
 ghost use Rattle.bx_decode.specs.Reading.{StandSomewhere, CarriesBy, ArePlaces, AreBorders};
 ghost use Rattle.bx_encode.specs.Sizes.{IsFrame};
-ghost use Rattle.bx_encode.specs.Variables.{IsVariable, border_count as borders_of, number as number_of};
+ghost use Rattle.bx_encode.specs.Variables.{IsVariable, border_count, number};
 ghost use Rattle.bx_encode.specs.declared.variable.Variable.TheVariants.{NodeOn};
-ghost use Rattle.bx_grid.specs.Tiles.{tile_count as tiles_of, IsGrid};
+ghost use Rattle.bx_grid.specs.Tiles.{tile_count, IsGrid};
 ghost use Rattle.bx_layout.specs.Legal.{IsLegal};
 ghost use Rattle.bx_layout.specs.Permits.{test_of};
 
-use bx_encode::{MOST_AREA, MOST_NODES, Variable, number};
+use bx_encode::{MOST_AREA, MOST_NODES, Variable, var_of};
 use bx_grid::Ratio;
 use bx_layout::{Borders, Layout, Permit, Places};
 use bx_logic::NoMemory;
@@ -34,7 +34,7 @@ pub fn decode(
 ) -> Result<Layout, NoMemory>
     requires grid { IsGrid ratio }
     requires nodes { length net.now.nodes ≤ MOST_NODES }
-    requires area { tiles_of ratio ≤ MOST_AREA }
+    requires area { tile_count ratio ≤ MOST_AREA }
     requires true_bits { AreTrue net.now (test_of permit.now) ratio bits.now }
     ensures means { IfOk result (λ layout. Means net.now ratio bits.now layout) }
     ensures legal { IfOk result (λ layout. IsLegal net.now (test_of permit.now) layout) }
@@ -59,7 +59,8 @@ fn read_places(
 ) -> Result<Vec<u32>, NoMemory>
     requires frame { IsFrame net.now ratio }
     requires stand { StandSomewhere net.now ratio bits.now }
-    ensures { IfOk result (λ places. ArePlaces net.now ratio bits.now (length net.now.nodes) places.items) }
+    ensures { IfOk result (λ places.
+        ArePlaces net.now ratio bits.now (length net.now.nodes) places.items) }
 {
     let mut places = Vec::new(alloc);
     for v in 0..net.node_count() {
@@ -75,7 +76,7 @@ fn tile_of(net: &MappedNet, ratio: Ratio, v: u32, bits: &[bool]) -> u32
     requires stand { StandSomewhere net.now ratio bits.now }
     ensures { IsSet net.now ratio bits.now (NodeOn v result) }
 {
-    for t in 0..tile_count(net, ratio) {
+    for t in 0..tiles_of(net, ratio) {
         if is_set(net, ratio, Variable::NodeOn(v, t), bits) {
             return t;
         }
@@ -91,10 +92,11 @@ fn read_borders(
     bits: &[bool],
 ) -> Result<Vec<Option<u32>>, NoMemory>
     requires { IsFrame net.now ratio }
-    ensures { IfOk result (λ borders. AreBorders net.now ratio bits.now (borders_of ratio) borders.items) }
+    ensures { IfOk result (λ borders.
+        AreBorders net.now ratio bits.now (border_count ratio) borders.items) }
 {
     let mut borders = Vec::new(alloc);
-    for b in 0..2 * tile_count(net, ratio) {
+    for b in 0..2 * tiles_of(net, ratio) {
         borders.push(edge_on(net, ratio, b, bits))?;
     }
     Ok(borders)
@@ -103,7 +105,7 @@ fn read_borders(
 // The first edge that this border carries, if there is one.
 fn edge_on(net: &MappedNet, ratio: Ratio, b: u32, bits: &[bool]) -> Option<u32>
     requires frame { IsFrame net.now ratio }
-    requires border { b < borders_of ratio }
+    requires border { b < border_count ratio }
     ensures { CarriesBy net.now ratio bits.now b result }
 {
     for e in 0..net.edge_count() {
@@ -118,9 +120,9 @@ fn edge_on(net: &MappedNet, ratio: Ratio, b: u32, bits: &[bool]) -> Option<u32>
 fn is_set(net: &MappedNet, ratio: Ratio, x: Variable, bits: &[bool]) -> bool
     requires frame { IsFrame net.now ratio }
     requires variable { IsVariable net.now ratio x }
-    ensures { result ≡ value_of bits.now (number_of net.now ratio x) }
+    ensures { result ≡ value_of bits.now (number net.now ratio x) }
 {
-    is_true(bits, number(net, ratio, x) as usize - 1)
+    is_true(bits, var_of(net, ratio, x) as usize - 1)
 }
 
 // Whether there is a bit at this place, and it is true.
@@ -131,9 +133,9 @@ fn is_true(bits: &[bool], place: usize) -> bool
 }
 
 // How many tiles there are.
-fn tile_count(net: &MappedNet, ratio: Ratio) -> u32
+fn tiles_of(net: &MappedNet, ratio: Ratio) -> u32
     requires { IsFrame net.now ratio }
-    ensures is { result ≡ tiles_of ratio }
+    ensures is { result ≡ tile_count ratio }
     ensures few { result ≤ 144 }
 {
     let _frame = net;

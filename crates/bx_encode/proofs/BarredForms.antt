@@ -11,7 +11,7 @@ use Rattle.bx_forms.specs.FormTable.{place}
 use Rattle.bx_forms.specs.Forms.{IsForm, form_node, form_upper, form_lower}
 use Rattle.bx_forms.specs.Kinds.{operands, slots}
 use Rattle.bx_forms.specs.Sides.{opposite, is_used, side_count}
-use Rattle.bx_forms.proofs.Lines.{AllFrom, from-all}
+use Rattle.bx_forms.proofs.Lines.{AllForms, at-form, is-form}
 use Rattle.bx_forms.proofs.Nodes.{sides-counted, form-of}
 use Rattle.bx_grid.specs.declared.ratio.Ratio.{Ratio}
 use Rattle.bx_grid.specs.Tiles.{IsTile}
@@ -137,10 +137,10 @@ module _ (N : Network) (permit : PermitTest) (L : Layout) (network : IsNetwork N
     wire-has upper lower e out above below = on (entered-from N permit L network legal t inside free lower e out)
       where
         wired : (a b : Side) → enters L t a ≡ Some e → leaves L t b ≡ Some e → leaves L t (opposite b) ≡ None → HasForm N L t (4 + 2 * place a + place b)
-        wired Left Left come go none = through-has (Some Left) None (e, go, come) none (let h : 4 < 28 = omega arith in h)
-        wired Left Right come go none = through-has None (Some Left) none (e, go, come) (let h : 5 < 28 = omega arith in h)
-        wired Right Left come go none = through-has (Some Right) None (e, go, come) none (let h : 6 < 28 = omega arith in h)
-        wired Right Right come go none = through-has None (Some Right) none (e, go, come) (let h : 7 < 28 = omega arith in h)
+        wired Left Left come go none = through-has (Some Left) None (e, go, come) none (is-form 4 refl)
+        wired Left Right come go none = through-has None (Some Left) none (e, go, come) (is-form 5 refl)
+        wired Right Left come go none = through-has (Some Right) None (e, go, come) none (is-form 6 refl)
+        wired Right Right come go none = through-has None (Some Right) none (e, go, come) (is-form 7 refl)
 
         on : (from : Side) × (enters L t from ≡ Some e) → HasForm N L t (4 + 2 * place upper + place lower)
         on (from, come) = elim (side-or from upper) [
@@ -158,7 +158,7 @@ module _ (N : Network) (permit : PermitTest) (L : Layout) (network : IsNetwork N
         on : (o : Option Side) × ComesFrom L t Right o → HasForm N L t 26
         on (None, r) = absurd (false≢true (sym (one None r) ∙ ap is_some other))
         on (Some Left, r) = absurd (false≢true (sym (one (Some Left) r) ∙ ap is_some other))
-        on (Some Right, r) = through-has (Some Left) (Some Right) (e, out, come) r (let h : 26 < 28 = omega arith in h)
+        on (Some Right, r) = through-has (Some Left) (Some Right) (e, out, come) r (is-form 26 refl)
     two-has Right e f come out other = on (source-of N permit L network legal t inside free Left)
       where
         one : (o : Option Side) → ComesFrom L t Left o → is_some (enters L t Right) ≡ (upper_from o (Some Left)).right
@@ -167,7 +167,7 @@ module _ (N : Network) (permit : PermitTest) (L : Layout) (network : IsNetwork N
         on : (o : Option Side) × ComesFrom L t Left o → HasForm N L t 27
         on (None, l) = absurd (false≢true (sym (one None l) ∙ ap is_some other))
         on (Some Left, l) = absurd (false≢true (sym (one (Some Left) l) ∙ ap is_some other))
-        on (Some Right, l) = through-has (Some Right) (Some Left) l (e, out, come) (let h : 27 < 28 = omega arith in h)
+        on (Some Right, l) = through-has (Some Right) (Some Left) l (e, out, come) (is-form 27 refl)
 
 -- ---- what the table says of the forms without a node
 
@@ -180,7 +180,7 @@ AreBarsOf N r t form =
 LineIsBarred : Network → Ratio → ℕ → ℕ → Type 0
 LineIsBarred N r t form = MatchOption (form_node form) (AreBarsOf N r t form) (λ kind. Unit {0})
 
-lines-barred : (N : Network) (r : Ratio) (t : ℕ) → AllFrom (LineIsBarred N r t) 0 28
+lines-barred : (N : Network) (r : Ratio) (t : ℕ) → AllForms (LineIsBarred N r t)
 unfolding LineIsBarred bars
 lines-barred N r t =
     (tt, (tt, (tt, (tt, (inl (Left, Left, refl, refl), (inl (Left, Right, refl, refl), (inl (Right, Left, refl, refl), (inl (Right, Right, refl, refl), (tt, (tt, (tt, (tt, (tt, (tt, (tt, (tt, (tt, (tt, (tt, (tt, (tt, (tt, (tt, (tt, (tt, (tt, (inr (Left, refl, refl), (inr (Right, refl, refl), tt))))))))))))))))))))))))))))
@@ -188,5 +188,5 @@ lines-barred N r t =
 pub free-bars : (N : Network) (r : Ratio) (t form : ℕ) → IsForm form → form_node form ≡ None → AreBarsOf N r t form
 unfolding LineIsBarred
 free-bars N r t form inside node =
-    let line : LineIsBarred N r t form = from-all (LineIsBarred N r t) 0 28 (lines-barred N r t) form (omega arith) (let l : form < 28 = inside in omega arith) in
+    let line : LineIsBarred N r t form = at-form (LineIsBarred N r t) (lines-barred N r t) form inside in
     subst (λ (o : Option _). MatchOption o (AreBarsOf N r t form) (λ kind. Unit {0})) node line

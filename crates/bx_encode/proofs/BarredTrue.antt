@@ -25,13 +25,13 @@ use Rattle.bx_layout.specs.TileForms.{upper_sides, lower_sides, on_side, HasForm
 use Rattle.bx_layout.proofs.Balances.{find-place}
 use Rattle.bx_layout.proofs.OnTiles.{some-of}
 use Rattle.bx_encode.specs.Bits.{AreBitsOf}
-use Rattle.bx_encode.specs.Families.{Clause, each, nodes, edges, tiles, listed, has_kind, used_side, bars_node, not_alone, bars_wire, bars_two, bars, is_permitted}
+use Rattle.bx_encode.specs.Families.{Clause, each, nodes, edges, tiles, list_of, has_kind, used_side, bars_node, not_alone, bars_wire, bars_two, bars, is_permitted}
 use Rattle.bx_encode.specs.Variables.{border_count, is, isnt}
 use Rattle.bx_encode.specs.declared.variable.Variable.TheVariants.{NodeOn, Taken, Used, EdgeOn}
 use Rattle.bx_encode.proofs.Barring.{entering-in, holding-is}
 use Rattle.bx_encode.proofs.BarredForms.{AreBarsOf, kind-is, upper-used, lower-used, node-has, wire-has, two-has, free-bars}
 use Rattle.bx_encode.proofs.Truths.{range-within, filter-cases, clause-first, clause-rest, clause-left, clause-right, all-one, all-map, all-each, is-true, isnt-true, holds-or-not, if-holds, if-fails, not-both}
-use Rattle.bx_encode.proofs.WaysOn.{listed-is, entered, enters-by, not-through}
+use Rattle.bx_encode.proofs.WaysOn.{list_of-is, entered, enters-by, not-through}
 
 none-unless : (o : Option ℕ) → (is_some o ≡ true → ⊥) → o ≡ None
 none-unless None h = refl
@@ -54,10 +54,10 @@ module _ (N : Network) (permit : PermitTest) (L : Layout) (network : IsNetwork N
     -- ---- against the form of a node
 
     above-true : (v : ℕ) (upper : Side) → v < length N.nodes → (Stands L v t → is_used (upper_sides L t) upper ≡ true → ⊥) →
-        AllTrue bits (map (λ a. isnt N L.ratio (NodeOn v t) ∷ isnt N L.ratio (Used a) ∷ []) (listed (entering L.ratio t upper)))
+        AllTrue bits (map (λ a. isnt N L.ratio (NodeOn v t) ∷ isnt N L.ratio (Used a) ∷ []) (list_of (entering L.ratio t upper)))
     above-true v upper node refuse =
-        all-map bits (λ a. isnt N L.ratio (NodeOn v t) ∷ isnt N L.ratio (Used a) ∷ []) (listed (entering L.ratio t upper)) (λ a own.
-        let at = listed-is (entering L.ratio t upper) a own in
+        all-map bits (λ a. isnt N L.ratio (NodeOn v t) ∷ isnt N L.ratio (Used a) ∷ []) (list_of (entering L.ratio t upper)) (λ a own.
+        let at = list_of-is (entering L.ratio t upper) a own in
         not-both N L bits are (NodeOn v t) (Used a) (node, tile) (entry-low a upper at) (λ stands used. refuse stands (entry-used a upper at used)))
 
     below-true : (v : ℕ) (lower : Side) → v < length N.nodes → (Stands L v t → is_used (lower_sides L t) lower ≡ true → ⊥) →
@@ -72,8 +72,8 @@ module _ (N : Network) (permit : PermitTest) (L : Layout) (network : IsNetwork N
     bars_node-true Output v upper lower node refuse = above-true v upper node (λ stands used. refuse stands (λ one. used) (λ one. absurd (omega arith)))
     bars_node-true Fan v upper lower node refuse = above-true v upper node (λ stands used. refuse stands (λ one. used) (λ one. absurd (omega arith)))
     bars_node-true Not v upper lower node refuse =
-        all-map bits (λ a. isnt N L.ratio (NodeOn v t) ∷ isnt N L.ratio (Used a) ∷ isnt N L.ratio (Used (border t lower)) ∷ []) (listed (entering L.ratio t upper)) (λ a own.
-        let at = listed-is (entering L.ratio t upper) a own in
+        all-map bits (λ a. isnt N L.ratio (NodeOn v t) ∷ isnt N L.ratio (Used a) ∷ isnt N L.ratio (Used (border t lower)) ∷ []) (list_of (entering L.ratio t upper)) (λ a own.
+        let at = list_of-is (entering L.ratio t upper) a own in
         if-holds N L bits are (NodeOn v t) (node, tile) (isnt N L.ratio (Used a) ∷ isnt N L.ratio (Used (border t lower)) ∷ []) (λ stands.
         not-both N L bits are (Used a) (Used (border t lower)) (entry-low a upper at) (exit-low lower)
         (λ above below. refuse stands (λ one. entry-used a upper at above) (λ one. lower-used L t lower ∙ below))))
@@ -91,14 +91,14 @@ module _ (N : Network) (permit : PermitTest) (L : Layout) (network : IsNetwork N
 
     -- what is asked holds, or of the two borders this one alone is used
     alone-or : (side : Side) (b : ℕ) (other : Option ℕ) → b < border_count L.ratio → ((o : ℕ) → other ≡ Some o → o < border_count L.ratio) →
-        IsClauseTrue bits (not_alone N L.ratio side b (listed other)) ⊎ (IsSome (edge_on L b) × ((o : ℕ) → other ≡ Some o → IsSome (edge_on L o) → ⊥))
+        IsClauseTrue bits (not_alone N L.ratio side b (list_of other)) ⊎ (IsSome (edge_on L b) × ((o : ℕ) → other ≡ Some o → IsSome (edge_on L o) → ⊥))
     alone-or side b other low lows = elim (holds-or-not N L bits are (Used b) low) [
       | inl used ↦ beside other lows used
-      | inr off ↦ inl (alone-by side b (listed other) (inl ((isnt-true N L bits are (Used b) low).1 off)))
+      | inr off ↦ inl (alone-by side b (list_of other) (inl ((isnt-true N L bits are (Used b) low).1 off)))
     ]
       where
         beside : (p : Option ℕ) → ((o : ℕ) → p ≡ Some o → o < border_count L.ratio) → IsSome (edge_on L b) →
-            IsClauseTrue bits (not_alone N L.ratio side b (listed p)) ⊎ (IsSome (edge_on L b) × ((o : ℕ) → p ≡ Some o → IsSome (edge_on L o) → ⊥))
+            IsClauseTrue bits (not_alone N L.ratio side b (list_of p)) ⊎ (IsSome (edge_on L b) × ((o : ℕ) → p ≡ Some o → IsSome (edge_on L o) → ⊥))
         beside None within used = inr (used, λ o e. absurd (cc))
         beside (Some p) within used = elim (holds-or-not N L bits are (Used p) (within p refl)) [
           | inl also ↦ inl (alone-by side b (p ∷ []) (inr (clause-first bits (is N L.ratio (Used p)) [] ((is-true N L bits are (Used p) (within p refl)).1 also))))
@@ -106,8 +106,8 @@ module _ (N : Network) (permit : PermitTest) (L : Layout) (network : IsNetwork N
         ]
 
     wire-true : (upper lower : Side) → (HasForm N L t (4 + 2 * place upper + place lower) → ⊥) → AllTrue bits (bars_wire N L.ratio t upper lower)
-    wire-true upper lower refuse = all-map bits (λ a. is N L.ratio (Taken t) ∷ above a ++ below) (listed (entering L.ratio t upper)) (λ a own.
-        let at = listed-is (entering L.ratio t upper) a own in
+    wire-true upper lower refuse = all-map bits (λ a. is N L.ratio (Taken t) ∷ above a ++ below) (list_of (entering L.ratio t upper)) (λ a own.
+        let at = list_of-is (entering L.ratio t upper) a own in
         if-fails N L bits are (Taken t) tile (above a ++ below) (λ none. elim (alone-or upper a (entering L.ratio t (opposite upper)) (entry-low a upper at) (λ o e. entry-low o (opposite upper) e)) [
           | inl first ↦ clause-left bits (above a) below first
           | inr (used, off) ↦ elim (alone-or lower (border t lower) (Some (border t (opposite lower))) (exit-low lower) exit-there) [
@@ -117,7 +117,7 @@ module _ (N : Network) (permit : PermitTest) (L : Layout) (network : IsNetwork N
         ]))
       where
         above : ℕ → Clause
-        above a = not_alone N L.ratio upper a (listed (entering L.ratio t (opposite upper)))
+        above a = not_alone N L.ratio upper a (list_of (entering L.ratio t (opposite upper)))
 
         below : Clause
         below = not_alone N L.ratio lower (border t lower) (border t (opposite lower) ∷ [])
@@ -140,10 +140,10 @@ module _ (N : Network) (permit : PermitTest) (L : Layout) (network : IsNetwork N
 
     two-true : (lower : Side) → (HasForm N L t (on_side 26 27 lower) → ⊥) → AllTrue bits (bars_two N L.ratio t lower)
     two-true lower refuse =
-        all-each bits (listed (entering L.ratio t Left)) (λ a. each (listed (entering L.ratio t Right)) (λ b. map (clause a b) (edges N L.ratio))) (λ a one.
-        all-each bits (listed (entering L.ratio t Right)) (λ b. map (clause a b) (edges N L.ratio)) (λ b other.
+        all-each bits (list_of (entering L.ratio t Left)) (λ a. each (list_of (entering L.ratio t Right)) (λ b. map (clause a b) (edges N L.ratio))) (λ a one.
+        all-each bits (list_of (entering L.ratio t Right)) (λ b. map (clause a b) (edges N L.ratio)) (λ b other.
         all-map bits (clause a b) (edges N L.ratio) (λ e own.
-        clause-true a b e (listed-is (entering L.ratio t Left) a one) (listed-is (entering L.ratio t Right) b other) (range-within (length N.edges) e own))))
+        clause-true a b e (list_of-is (entering L.ratio t Left) a one) (list_of-is (entering L.ratio t Right) b other) (range-within (length N.edges) e own))))
       where
         clause : ℕ → ℕ → ℕ → Clause
         clause a b e = isnt N L.ratio (Used b) ∷ isnt N L.ratio (EdgeOn e a) ∷ isnt N L.ratio (EdgeOn e (border t lower)) ∷ []

@@ -8,7 +8,7 @@ use Rattle.bx_grid.specs.Tiles.{IsTile, x_of, y_of, is_odd, one_less, column_bes
 use Rattle.bx_grid.proofs.Neighbours.{above-less}
 use Rattle.bx_network.specs.Networks.{Network}
 use Rattle.bx_encode.specs.Variables.{border_count}
-use Rattle.bx_encode.specs.Families.{listed, entries, exits}
+use Rattle.bx_encode.specs.Families.{list_of, entries, exits}
 
 -- numbers that rise strictly, from one number on to below another
 abbrev pub Climbs : ℕ → ℕ → List ℕ → Type 0
@@ -68,7 +68,7 @@ above-next r t u v left right =
     omega (arith, a.number, b.number, ap (λ y. y * r.w) rows)
 
 climbs-of : (t : ℕ) (o p : Option ℕ) → ((u : ℕ) → o ≡ Some u → u < t) → ((v : ℕ) → p ≡ Some v → v < t) → ((u v : ℕ) → o ≡ Some u → p ≡ Some v → u + 1 ≡ v) →
-    Climbs 0 (2 * t) (listed (option_map (λ u. border u (opposite Left)) o) ++ listed (option_map (λ u. border u (opposite Right)) p))
+    Climbs 0 (2 * t) (list_of (option_map (λ u. border u (opposite Left)) o) ++ list_of (option_map (λ u. border u (opposite Right)) p))
 climbs-of t None None a b next = omega arith
 climbs-of t (Some u) None a b next = (omega arith, omega (arith, a u refl))
 climbs-of t None (Some v) a b next = (omega arith, omega (arith, b v refl))

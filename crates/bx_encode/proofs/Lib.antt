@@ -17,3 +17,4 @@ pub mod BarredForms
 pub mod BarredTrue
 pub mod Solving
 pub mod HavingBits
+pub mod Formed

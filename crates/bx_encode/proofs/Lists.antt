@@ -10,14 +10,11 @@ use Rattle.bx_network.specs.Networks.{Network}
 use Rattle.bx_encode.specs.Variables.{border_count, number}
 use Rattle.bx_encode.specs.declared.variable.Variable.TheVariants.{NodeOn, EdgeOn}
 use Rattle.bx_encode.specs.Families.{nodes, edges, tiles}
+use Rattle.bx_encode.specs.Writing.{rising}
 
 pub map-same : {X Y : Type 0} (f g : X → Y) (xs : List X) → ((x : X) → f x ≡ g x) → map f xs ≡ map g xs
 map-same f g [] same = refl
 map-same f g (x ∷ xs) same = ap (λ y. y ∷ map f xs) (same x) ∙ ap (λ ys. g x ∷ ys) (map-same f g xs same)
-
--- literals of this many variables: the first, and each next one so much higher
-abbrev pub rising : ℕ → ℕ → Bool → ℕ → List Literal
-rising first step positive count = map (λ k. record { var = first + k * step; positive = positive }) (range_with_len 0 count)
 
 literals-same : (f g : ℕ → ℕ) (positive : Bool) (count : ℕ) → ((k : ℕ) → f k ≡ g k) → map (λ k. record { var = f k; positive = positive }) (range_with_len 0 count) ≡ map {B = Literal} (λ k. record { var = g k; positive = positive }) (range_with_len 0 count)
 literals-same f g positive count same = map-same _ _ (range_with_len 0 count) (λ k. ap (λ n. record { var = n; positive = positive }) (same k))

@@ -6,7 +6,7 @@ use Rattle.std.proofs.lemmas.Bool.{cases_lt}
 use Rattle.bx_grid.specs.declared.ratio.Ratio.{Ratio}
 use Rattle.bx_grid.specs.Tiles.{tile_count, IsTile}
 use Rattle.bx_network.specs.Networks.{Network}
-use Rattle.bx_encode.specs.Variables.{border_count, IsVariable, before_taken, before_used, before_edges, variable_count, number}
+use Rattle.bx_encode.specs.Variables.{border_count, IsVariable, taken_offset, used_offset, edge_offset, variable_count, number}
 use Rattle.bx_encode.specs.declared.variable.Variable.{Variable}
 use Rattle.bx_encode.specs.declared.variable.Variable.TheVariants.{NodeOn, Taken, Used, EdgeOn}
 
@@ -19,19 +19,19 @@ pub node_on-above : (N : Network) (r : Ratio) (v t : ℕ) → 1 ≤ number N r (
 unfolding number
 node_on-above N r v t = omega arith
 
-pub node_on-low : (N : Network) (r : Ratio) (v t : ℕ) → v < length N.nodes → IsTile r t → number N r (NodeOn v t) ≤ before_taken N r
+pub node_on-low : (N : Network) (r : Ratio) (v t : ℕ) → v < length N.nodes → IsTile r t → number N r (NodeOn v t) ≤ taken_offset N r
 unfolding number
 node_on-low N r v t node tile = omega (arith, place-low (tile_count r) (length N.nodes) v t node tile)
 
-pub taken-is : (N : Network) (r : Ratio) (t : ℕ) → number N r (Taken t) ≡ 1 + before_taken N r + t
+pub taken-is : (N : Network) (r : Ratio) (t : ℕ) → number N r (Taken t) ≡ 1 + taken_offset N r + t
 unfolding number
 taken-is N r t = refl
 
-pub used-is : (N : Network) (r : Ratio) (b : ℕ) → number N r (Used b) ≡ 1 + before_used N r + b
+pub used-is : (N : Network) (r : Ratio) (b : ℕ) → number N r (Used b) ≡ 1 + used_offset N r + b
 unfolding number
 used-is N r b = refl
 
-pub edge_on-above : (N : Network) (r : Ratio) (e b : ℕ) → before_edges N r + 1 ≤ number N r (EdgeOn e b)
+pub edge_on-above : (N : Network) (r : Ratio) (e b : ℕ) → edge_offset N r + 1 ≤ number N r (EdgeOn e b)
 unfolding number
 edge_on-above N r e b = omega arith
 
@@ -99,36 +99,36 @@ abbrev HasNumber : Network → Ratio → ℕ → Type 0
 HasNumber N r k = (x : Variable) × IsVariable N r x × (number N r x ≡ k)
 
 -- the k-th of the first block, of the others, and so of all
-node_on-at : (N : Network) (r : Ratio) (k : ℕ) → k < before_taken N r → HasNumber N r (1 + k)
+node_on-at : (N : Network) (r : Ratio) (k : ℕ) → k < taken_offset N r → HasNumber N r (1 + k)
 unfolding number
 node_on-at N r k low =
     let place = place-at (tile_count r) (length N.nodes) k low in
     let at : 1 + place.row * tile_count r + place.col ≡ 1 + k = omega (arith, place.at) in
     (NodeOn place.row place.col, (place.row_in, place.col_in), at)
 
-taken-at : (N : Network) (r : Ratio) (t : ℕ) → t < tile_count r → HasNumber N r (1 + before_taken N r + t)
+taken-at : (N : Network) (r : Ratio) (t : ℕ) → t < tile_count r → HasNumber N r (1 + taken_offset N r + t)
 unfolding number
 taken-at N r t tile = (Taken t, tile, refl)
 
-used-at : (N : Network) (r : Ratio) (b : ℕ) → b < border_count r → HasNumber N r (1 + before_used N r + b)
+used-at : (N : Network) (r : Ratio) (b : ℕ) → b < border_count r → HasNumber N r (1 + used_offset N r + b)
 unfolding number
 used-at N r b border = (Used b, border, refl)
 
-edge_on-at : (N : Network) (r : Ratio) (k : ℕ) → k < length N.edges * border_count r → HasNumber N r (1 + before_edges N r + k)
+edge_on-at : (N : Network) (r : Ratio) (k : ℕ) → k < length N.edges * border_count r → HasNumber N r (1 + edge_offset N r + k)
 unfolding number
 edge_on-at N r k low =
     let place = place-at (border_count r) (length N.edges) k low in
-    let at : 1 + before_edges N r + place.row * border_count r + place.col ≡ 1 + before_edges N r + k = omega (arith, place.at) in
+    let at : 1 + edge_offset N r + place.row * border_count r + place.col ≡ 1 + edge_offset N r + k = omega (arith, place.at) in
     (EdgeOn place.row place.col, (place.row_in, place.col_in), at)
 
 number-all : (N : Network) (r : Ratio) (k : ℕ) → k < variable_count N r → HasNumber N r (1 + k)
-number-all N r k within = elim (cases_lt k (before_taken N r)) [
+number-all N r k within = elim (cases_lt k (taken_offset N r)) [
   | inl low ↦ node_on-at N r k low
-  | inr high ↦ elim (cases_lt k (before_used N r)) [
-    | inl low ↦ let e : 1 + before_taken N r + (k - before_taken N r) ≡ 1 + k = omega arith in subst (HasNumber N r) e (taken-at N r (k - before_taken N r) (omega arith))
-    | inr higher ↦ elim (cases_lt k (before_edges N r)) [
-      | inl low ↦ let e : 1 + before_used N r + (k - before_used N r) ≡ 1 + k = omega arith in subst (HasNumber N r) e (used-at N r (k - before_used N r) (omega arith))
-      | inr highest ↦ let e : 1 + before_edges N r + (k - before_edges N r) ≡ 1 + k = omega arith in subst (HasNumber N r) e (edge_on-at N r (k - before_edges N r) (omega arith))
+  | inr high ↦ elim (cases_lt k (used_offset N r)) [
+    | inl low ↦ let e : 1 + taken_offset N r + (k - taken_offset N r) ≡ 1 + k = omega arith in subst (HasNumber N r) e (taken-at N r (k - taken_offset N r) (omega arith))
+    | inr higher ↦ elim (cases_lt k (edge_offset N r)) [
+      | inl low ↦ let e : 1 + used_offset N r + (k - used_offset N r) ≡ 1 + k = omega arith in subst (HasNumber N r) e (used-at N r (k - used_offset N r) (omega arith))
+      | inr highest ↦ let e : 1 + edge_offset N r + (k - edge_offset N r) ≡ 1 + k = omega arith in subst (HasNumber N r) e (edge_on-at N r (k - edge_offset N r) (omega arith))
     ]
   ]
 ]

@@ -8,7 +8,7 @@ use Rattle.bx_grid.specs.declared.ratio.Ratio.{Ratio}
 use Rattle.bx_grid.specs.Tiles.{IsTile, border}
 use Rattle.bx_network.specs.Networks.{Network}
 use Rattle.bx_encode.specs.declared.variable.Variable.TheVariants.{NodeOn, Taken, EdgeOn}
-use Rattle.bx_encode.specs.Variables.{border_count, before_edges, variable_count, number, is, isnt}
+use Rattle.bx_encode.specs.Variables.{border_count, edge_offset, variable_count, number, is, isnt}
 use Rattle.bx_encode.specs.Families.{on_some, entries, exits}
 use Rattle.bx_encode.proofs.Rising.{Rises, rises-from, rises-to, rises-append, rises-clause}
 use Rattle.bx_encode.proofs.Numbering.{node_on-low, number-above, number-within}
@@ -17,7 +17,7 @@ use Rattle.bx_encode.proofs.Entering.{Climbs, climbs-in, entries-climb, exits-cl
 
 -- the number before those of an edge's borders
 base : Network → Ratio → ℕ → ℕ
-base N r e = before_edges N r + e * border_count r
+base N r e = edge_offset N r + e * border_count r
 
 edge-is : (N : Network) (r : Ratio) (e b : ℕ) → number N r (EdgeOn e b) ≡ 1 + base N r e + b
 unfolding number base

@@ -7,7 +7,7 @@ use Rattle.bx_grid.specs.Tiles.{tile_count, IsTile}
 use Rattle.bx_network.specs.Networks.{Network}
 use Rattle.bx_encode.specs.declared.variable.Variable.{Variable}
 use Rattle.bx_encode.specs.declared.variable.Variable.TheVariants.{NodeOn, Taken, Used, EdgeOn}
-use Rattle.bx_encode.specs.Variables.{IsVariable, border_count, before_edges, variable_count, number}
+use Rattle.bx_encode.specs.Variables.{IsVariable, border_count, edge_offset, variable_count, number}
 use Rattle.bx_encode.specs.Families.{nodes, edges, tiles}
 use Rattle.bx_encode.proofs.Rising.{Rises, rises-from, rises-clause}
 use Rattle.bx_encode.proofs.Numbering.{node_on-low, taken-is, used-is, edge_on-above, number-above, number-within}
@@ -69,15 +69,15 @@ unfolding number
 nodes-clause N r t p tile = rises-clause _ _
     (range-rises (λ v. number N r (NodeOn v t)) p 0 (length N.nodes) 0 (variable_count N r) (λ k. omega arith) (λ k h. number-within N r (NodeOn k t) (omega arith, tile)) (number-above N r (NodeOn 0 t)) (omega arith))
 
-edges-rise : (N : Network) (r : Ratio) (b : ℕ) (p : Bool) → b < border_count r → Rises (before_edges N r) (variable_count N r) (map (λ e. record { var = number N r (EdgeOn e b); positive = p }) (edges N r))
+edges-rise : (N : Network) (r : Ratio) (b : ℕ) (p : Bool) → b < border_count r → Rises (edge_offset N r) (variable_count N r) (map (λ e. record { var = number N r (EdgeOn e b); positive = p }) (edges N r))
 unfolding number
 edges-rise N r b p border =
-    range-rises (λ e. number N r (EdgeOn e b)) p 0 (length N.edges) (before_edges N r) (variable_count N r) (λ k. omega arith) (λ k h. number-within N r (EdgeOn k b) (omega arith, border)) (omega (arith, edge_on-above N r 0 b)) (omega arith)
+    range-rises (λ e. number N r (EdgeOn e b)) p 0 (length N.edges) (edge_offset N r) (variable_count N r) (λ k. omega arith) (λ k h. number-within N r (EdgeOn k b) (omega arith, border)) (omega (arith, edge_on-above N r 0 b)) (omega arith)
 
 pub edges-clause : (N : Network) (r : Ratio) (b : ℕ) (p : Bool) → b < border_count r → IsClause (variable_count N r) (map (λ e. record { var = number N r (EdgeOn e b); positive = p }) (edges N r))
-edges-clause N r b p border = rises-clause _ _ (rises-from (before_edges N r) 0 _ _ (omega arith) (edges-rise N r b p border))
+edges-clause N r b p border = rises-clause _ _ (rises-from (edge_offset N r) 0 _ _ (omega arith) (edges-rise N r b p border))
 
 pub used-clause : (N : Network) (r : Ratio) (b : ℕ) (p q : Bool) → b < border_count r →
     IsClause (variable_count N r) (record { var = number N r (Used b); positive = p } ∷ map (λ e. record { var = number N r (EdgeOn e b); positive = q }) (edges N r))
 used-clause N r b p q border = rises-clause _ _
-    (number-above N r (Used b), rises-from (before_edges N r) (number N r (Used b)) _ _ (omega (arith, used-is N r b)) (edges-rise N r b q border))
+    (number-above N r (Used b), rises-from (edge_offset N r) (number N r (Used b)) _ _ (omega (arith, used-is N r b)) (edges-rise N r b q border))

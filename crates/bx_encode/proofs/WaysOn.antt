@@ -16,30 +16,30 @@ use Rattle.bx_layout.specs.Layouts.{Stands, edge_on, enters, leaves}
 use Rattle.bx_layout.specs.Legal.{IsLegal, IsOf}
 use Rattle.bx_layout.specs.Permits.{PermitTest}
 use Rattle.bx_layout.proofs.Balances.{one-cases, in-some, out-some, side-in, side-out, edge-forward, edge-within, at-source, at-target, at-other, in-apart, out-apart}
-use Rattle.bx_encode.specs.Families.{source, target, listed, entries, exits}
+use Rattle.bx_encode.specs.Families.{source, target, list_of, entries, exits}
 
 -- ---- the borders of a tile, by their sides
 
-listed-own : (o : Option ℕ) (b : ℕ) → o ≡ Some b → Contains (listed o) b
-listed-own None b e = absurd (cc)
-listed-own (Some a) b e = (0, omega arith, let same : a ≡ b = cc in same)
+list_of-own : (o : Option ℕ) (b : ℕ) → o ≡ Some b → Contains (list_of o) b
+list_of-own None b e = absurd (cc)
+list_of-own (Some a) b e = (0, omega arith, let same : a ≡ b = cc in same)
 
-pub listed-is : (o : Option ℕ) (b : ℕ) → Contains (listed o) b → o ≡ Some b
-listed-is o b own = on o (Member-from_contains b (listed o) own)
+pub list_of-is : (o : Option ℕ) (b : ℕ) → Contains (list_of o) b → o ≡ Some b
+list_of-is o b own = on o (Member-from_contains b (list_of o) own)
   where
-    on : (p : Option ℕ) → Member b (listed p) → p ≡ Some b
+    on : (p : Option ℕ) → Member b (list_of p) → p ≡ Some b
     on None h = absurd h
     on (Some a) (inl e) = ap Some e
     on (Some a) (inr h) = absurd h
 
 entry-own : (N : Network) (r : Ratio) (t b : ℕ) (side : Side) → entering r t side ≡ Some b → Contains (entries N r t) b
-entry-own N r t b Left e = Contains-append_left (listed (entering r t Left)) (listed (entering r t Right)) b (listed-own (entering r t Left) b e)
-entry-own N r t b Right e = Contains-append_right (listed (entering r t Left)) (listed (entering r t Right)) b (listed-own (entering r t Right) b e)
+entry-own N r t b Left e = Contains-append_left (list_of (entering r t Left)) (list_of (entering r t Right)) b (list_of-own (entering r t Left) b e)
+entry-own N r t b Right e = Contains-append_right (list_of (entering r t Left)) (list_of (entering r t Right)) b (list_of-own (entering r t Right) b e)
 
 entry-side : (N : Network) (r : Ratio) (t b : ℕ) → Contains (entries N r t) b → (side : Side) × (entering r t side ≡ Some b)
-entry-side N r t b own = elim (Contains-append_cases (listed (entering r t Left)) (listed (entering r t Right)) b own) [
-  | inl l ↦ (Left, listed-is (entering r t Left) b l)
-  | inr h ↦ (Right, listed-is (entering r t Right) b h)
+entry-side N r t b own = elim (Contains-append_cases (list_of (entering r t Left)) (list_of (entering r t Right)) b own) [
+  | inl l ↦ (Left, list_of-is (entering r t Left) b l)
+  | inr h ↦ (Right, list_of-is (entering r t Right) b h)
 ]
 
 exit-own : (N : Network) (r : Ratio) (t : ℕ) (side : Side) → Contains (exits N r t) (border t side)

@@ -1,5 +1,5 @@
 -- The lengths that are computed are those of the longest paths, so the test of a window is exact.
-use Rattle.std.proofs.Common.{◌≡◌, ℕ, zero, suc, ◌+◌, ◌<◌, ◌≤◌, ◌==◌, ◌&&◌, max, true, List, [], ◌∷◌, length, map, filter, slice_get, Some, inl, inr, refl, sym, ap, ◌∙◌, subst, arith}
+use Rattle.std.proofs.Common.{◌≡◌, ℕ, zero, suc, ◌+◌, ◌<◌, ◌≤◌, ◌==◌, ◌&&◌, max, List, [], ◌∷◌, length, map, filter, slice_get, Some, inl, inr, refl, sym, ap, ◌∙◌, subst, arith}
 use Rattle.std.specs.Prelude.{◌⊎◌, ◌↔◌, IsTrue, nat_le}
 use Rattle.std.proofs.Math.Nat.{le-max_left, le-max_right}
 use Rattle.std.proofs.lemmas.Bool.{eq-eqb, eqb-true, cases_lt}
@@ -16,7 +16,7 @@ use Rattle.bx_network.proofs.Networks.{kind-at, goes-forward}
 use Rattle.bx_network.proofs.Downs.{path-cons, path-rises, downs-are, ups-are, all_downs, all_ups}
 use Rattle.bx_network.proofs.Longest.{at}
 use Rattle.bx_network.proofs.Window.{window-is}
-use Rattle.bx_encode.specs.Windows.{greatest, longest_to, longest_from, down_of, up_of, fits_row, node_fits_row, in_window}
+use Rattle.bx_encode.specs.Windows.{greatest, longest, down_of, up_of, fits_row, node_fits_row, in_window}
 
 greatest-over : (n : ℕ) (ns : List ℕ) → Member n ns → n ≤ greatest ns
 greatest-over n [] h = absurd h
@@ -42,34 +42,64 @@ member-edge edges e h =
     let (k, low, at_k) = Contains-from_member e edges h in
     (k, e, got-slice_get edges k e low ∙ ap Some at_k, refl, refl)
 
--- ---- paths to a node
+-- ---- ways of edges that lead on from their near ends to their far ones
 
-longest_to-over : (edges : List Edge) (n u v k : ℕ) → k ≤ n → IsPath edges u v k → k ≤ longest_to edges n v
-longest_to-over edges n u v zero le path = omega arith
-longest_to-over edges zero u v (suc k) le path = absurd (omega arith)
-longest_to-over edges (suc n) u v (suc k) le (middle, path, (i, e, is, from, to)) =
-    let before = longest_to-over edges n u middle k (omega arith) path in
-    let same : longest_to edges n e.source ≡ longest_to edges n middle = ap (longest_to edges n) from in
-    let passes : (e.target == v) ≡ true = eq-eqb e.target v to in
-    let own = Member-map (λ (d : Edge). longest_to edges n d.source + 1) e _ (Member-filter (λ (d : Edge). d.target == v) e edges passes (edge-member edges i e is)) in
-    omega (arith, greatest-over _ _ own)
+module _ (near far : Edge → ℕ) (edges : List Edge) where
+  abbrev Way : ℕ → ℕ → ℕ → Type 0
+  Way v w zero = v ≡ w
+  Way v w (suc n) = (e : Edge) × Member e edges × (near e ≡ v) × Way (far e) w n
 
-record ComesFrom (edges : List Edge) (v k : ℕ) : Type 0 where
-  from : ℕ
-  path : IsPath edges from v k
+  longest-over : (n v w k : ℕ) → k ≤ n → Way v w k → k ≤ longest near far edges n v
+  longest-over n v w zero le way = omega arith
+  longest-over zero v w (suc k) le way = absurd (omega arith)
+  longest-over (suc n) v w (suc k) le (e, own, at, rest) =
+      let behind = longest-over n (far e) w k (omega arith) rest in
+      let kept = Member-map (λ (d : Edge). longest near far edges n (far d) + 1) e _ (Member-filter (λ (d : Edge). near d == v) e edges (eq-eqb (near e) v at) own) in
+      omega (arith, greatest-over _ _ kept)
 
-longest_to-path : (edges : List Edge) (n v : ℕ) → ComesFrom edges v (longest_to edges n v)
-longest_to-path edges zero v = record { from = v; path = refl }
-longest_to-path edges (suc n) v = elim (greatest-one (map (λ (d : Edge). longest_to edges n d.source + 1) (filter (λ (d : Edge). d.target == v) edges))) [
-  | inl none ↦ subst (ComesFrom edges v) (sym none) (record { from = v; path = refl })
-  | inr one ↦
-      let (e, own, is) = Member-map_cases (λ (d : Edge). longest_to edges n d.source + 1) _ (filter (λ (d : Edge). d.target == v) edges) one in
-      let (of, passes) = Member-filter_cases (λ (d : Edge). d.target == v) e edges own in
-      let before = longest_to-path edges n e.source in
-      let next : suc (longest_to edges n e.source) ≡ longest_to edges n e.source + 1 = omega arith in
-      let last = subst (HasEdge edges e.source) (eqb-true e.target v passes) (member-edge edges e of) in
-      subst (ComesFrom edges v) (next ∙ is) (record { from = before.from; path = (e.source, before.path, last) })
-]
+  longest-way : (n v : ℕ) → (w : ℕ) × Way v w (longest near far edges n v)
+  longest-way zero v = (v, refl)
+  longest-way (suc n) v = elim (greatest-one (map (λ (d : Edge). longest near far edges n (far d) + 1) (filter (λ (d : Edge). near d == v) edges))) [
+    | inl none ↦ (v, subst (Way v v) (sym none) refl)
+    | inr one ↦
+        let (e, kept, is) = Member-map_cases (λ (d : Edge). longest near far edges n (far d) + 1) _ (filter (λ (d : Edge). near d == v) edges) one in
+        let (own, at) = Member-filter_cases (λ (d : Edge). near d == v) e edges kept in
+        let (w, rest) = longest-way n (far e) in
+        let next : suc (longest near far edges n (far e)) ≡ longest near far edges n (far e) + 1 = omega arith in
+        (w, subst (Way v w) (next ∙ is) (e, own, eqb-true (near e) v at, rest))
+  ]
+
+-- a path is a way back from its end, and a way on from its beginning
+abbrev Back : List Edge → ℕ → ℕ → ℕ → Type 0
+Back = Way (λ e. e.target) (λ e. e.source)
+
+abbrev On : List Edge → ℕ → ℕ → ℕ → Type 0
+On = Way (λ e. e.source) (λ e. e.target)
+
+back : (edges : List Edge) (u v k : ℕ) → IsPath edges u v k → Back edges v u k
+back edges u v zero same = sym same
+back edges u v (suc k) (middle, path, (i, e, is, from, to)) =
+    (e, edge-member edges i e is, to, subst (λ w. Back edges w u k) (sym from) (back edges u middle k path))
+
+from-back : (edges : List Edge) (u v k : ℕ) → Back edges v u k → IsPath edges u v k
+from-back edges u v zero same = sym same
+from-back edges u v (suc k) (e, own, at, rest) =
+    (e.source, from-back edges u e.source k rest, subst (HasEdge edges e.source) at (member-edge edges e own))
+
+on-more : (edges : List Edge) (u w v k : ℕ) → On edges u w k → HasEdge edges w v → On edges u v (suc k)
+on-more edges u w v zero same (i, e, is, from, to) = (e, edge-member edges i e is, from ∙ sym same, to)
+on-more edges u w v (suc k) (e, own, at, rest) last = (e, own, at, on-more edges e.target w v k rest last)
+
+on : (edges : List Edge) (u v k : ℕ) → IsPath edges u v k → On edges u v k
+on edges u v zero same = same
+on edges u v (suc k) (middle, path, last) = on-more edges u middle v k (on edges u middle k path) last
+
+from-on : (edges : List Edge) (u v k : ℕ) → On edges u v k → IsPath edges u v k
+from-on edges u v zero same = same
+from-on edges u v (suc k) (e, own, at, rest) =
+    path-cons edges u e.target v k (subst (λ w. HasEdge edges w e.target) at (member-edge edges e own)) (from-on edges e.target v k rest)
+
+-- ---- the lengths of the longest paths
 
 path-append : (edges : List Edge) (u v w m n : ℕ) → IsPath edges u v m → IsPath edges v w n → IsPath edges u w (m + n)
 path-append edges u v w m zero a b = let e : m ≡ m + 0 = omega arith in subst (IsPath edges u w) e (subst (λ z. IsPath edges u z m) b a)
@@ -86,56 +116,14 @@ down-is N net v low =
     let down = downs-are N net v low in
     let d = at (all_downs N) v in
     let own = path-up N net down.input v d down.path in
-    let over = longest_to-over N.edges (length N.nodes) down.input v d (omega arith) down.path in
-    let way = longest_to-path N.edges (length N.nodes) v in
-    let rises = path-up N net way.from v (down_of N v) way.path in
-    let before = downs-are N net way.from (omega arith) in
-    let whole = down.longest before.input (at (all_downs N) way.from + down_of N v) before.starts (path-append N.edges before.input way.from v (at (all_downs N) way.from) (down_of N v) before.path way.path) in
+    let over = longest-over (λ e. e.target) (λ e. e.source) N.edges (length N.nodes) v down.input d (omega arith) (back N.edges down.input v d down.path) in
+    let (from, way) = longest-way (λ e. e.target) (λ e. e.source) N.edges (length N.nodes) v in
+    let path = from-back N.edges from v (down_of N v) way in
+    let rises = path-up N net from v (down_of N v) path in
+    let before = downs-are N net from (omega arith) in
+    let whole = down.longest before.input (at (all_downs N) from + down_of N v) before.starts (path-append N.edges before.input from v (at (all_downs N) from) (down_of N v) before.path path) in
     let same : d ≡ down_of N v = omega arith in
     subst (IsDown N v) same down
-
--- ---- paths from a node
-
-record Begins (edges : List Edge) (u v n : ℕ) : Type 0 where
-  next : ℕ
-  edge : HasEdge edges u next
-  path : IsPath edges next v n
-
--- the first edge of a path
-first-edge : (edges : List Edge) (u v n : ℕ) → IsPath edges u v (suc n) → Begins edges u v n
-first-edge edges u v zero (middle, same, edge) = record { next = v; edge = subst (λ w. HasEdge edges w v) (sym same) edge; path = refl }
-first-edge edges u v (suc n) (middle, path, edge) =
-    let begins = first-edge edges u middle n path in
-    record { next = begins.next; edge = begins.edge; path = (middle, begins.path, edge) }
-
-longest_from-over : (edges : List Edge) (n u v k : ℕ) → k ≤ n → IsPath edges u v k → k ≤ longest_from edges n u
-longest_from-over edges n u v zero le path = omega arith
-longest_from-over edges zero u v (suc k) le path = absurd (omega arith)
-longest_from-over edges (suc n) u v (suc k) le path =
-    let begins = first-edge edges u v k path in
-    let (i, e, is, from, to) = begins.edge in
-    let rest = longest_from-over edges n begins.next v k (omega arith) begins.path in
-    let same : longest_from edges n e.target ≡ longest_from edges n begins.next = ap (longest_from edges n) to in
-    let passes : (e.source == u) ≡ true = eq-eqb e.source u from in
-    let own = Member-map (λ (d : Edge). longest_from edges n d.target + 1) e _ (Member-filter (λ (d : Edge). d.source == u) e edges passes (edge-member edges i e is)) in
-    omega (arith, greatest-over _ _ own)
-
-record GoesTo (edges : List Edge) (u k : ℕ) : Type 0 where
-  to : ℕ
-  path : IsPath edges u to k
-
-longest_from-path : (edges : List Edge) (n u : ℕ) → GoesTo edges u (longest_from edges n u)
-longest_from-path edges zero u = record { to = u; path = refl }
-longest_from-path edges (suc n) u = elim (greatest-one (map (λ (d : Edge). longest_from edges n d.target + 1) (filter (λ (d : Edge). d.source == u) edges))) [
-  | inl none ↦ subst (GoesTo edges u) (sym none) (record { to = u; path = refl })
-  | inr one ↦
-      let (e, own, is) = Member-map_cases (λ (d : Edge). longest_from edges n d.target + 1) _ (filter (λ (d : Edge). d.source == u) edges) one in
-      let (of, passes) = Member-filter_cases (λ (d : Edge). d.source == u) e edges own in
-      let rest = longest_from-path edges n e.target in
-      let next : suc (longest_from edges n e.target) ≡ longest_from edges n e.target + 1 = omega arith in
-      let first = subst (λ w. HasEdge edges w e.target) (eqb-true e.source u passes) (member-edge edges e of) in
-      subst (GoesTo edges u) (next ∙ is) (record { to = rest.to; path = path-cons edges u e.target rest.to (longest_from edges n e.target) first rest.path })
-]
 
 -- a path ends at a node, if it begins at one
 path-within : (N : Network) → IsNetwork N → (u v n : ℕ) → u < length N.nodes → IsPath N.edges u v n → v < length N.nodes
@@ -149,10 +137,11 @@ up-is N net v low =
     let own = path-up N net v up.output d up.path in
     let (node, is_node, _) = up.ends in
     let inside = got-within N.nodes up.output node is_node in
-    let over = longest_from-over N.edges (length N.nodes) v up.output d (omega arith) up.path in
-    let way = longest_from-path N.edges (length N.nodes) v in
-    let behind = ups-are N net way.to (path-within N net v way.to (up_of N v) low way.path) in
-    let whole = up.longest behind.output (up_of N v + at (all_ups N) way.to) behind.ends (path-append N.edges v way.to behind.output (up_of N v) (at (all_ups N) way.to) way.path behind.path) in
+    let over = longest-over (λ e. e.source) (λ e. e.target) N.edges (length N.nodes) v up.output d (omega arith) (on N.edges v up.output d up.path) in
+    let (to, way) = longest-way (λ e. e.source) (λ e. e.target) N.edges (length N.nodes) v in
+    let path = from-on N.edges v to (up_of N v) way in
+    let behind = ups-are N net to (path-within N net v to (up_of N v) low path) in
+    let whole = up.longest behind.output (up_of N v + at (all_ups N) to) behind.ends (path-append N.edges v to behind.output (up_of N v) (at (all_ups N) to) path behind.path) in
     let same : d ≡ up_of N v = omega arith in
     subst (IsUp N v) same up
 

@@ -1,5 +1,5 @@
 -- How large a formula may be, and what it is to add clauses to one.
-use Rattle.std.specs.Prelude.{◌≡◌, ◌≤◌, ◌*◌, List, ◌++◌, length}
+use Rattle.std.specs.Prelude.{◌≡◌, ℕ, ◌≤◌, ◌*◌, List, ◌++◌, length}
 use Rattle.bx_cnf.specs.Formulas.{Formula}
 use Rattle.bx_grid.specs.declared.ratio.Ratio.{Ratio}
 use Rattle.bx_grid.specs.Tiles.{tile_count, IsGrid, IsTile}
@@ -15,6 +15,10 @@ pub record IsFrame (N : Network) (r : Ratio) : Type 0 where
   pub few_nodes : length N.nodes ≤ MOST_NODES
   pub few_tiles : tile_count r ≤ MOST_AREA
   pub few_edges : length N.edges ≤ 2 * MOST_NODES
+
+-- more than the fourteen families come to at the most nodes and the most tiles
+abbrev pub most_clauses : ℕ
+most_clauses = 20000000
 
 -- these clauses stand behind those that stood before
 pub record Adds (before after : Formula) (clauses : List Clause) : Type 0 where

@@ -11,21 +11,18 @@ abbrev pub greatest : List ℕ → ℕ
 greatest [] = 0
 greatest (n ∷ ns) = max n (greatest ns)
 
--- how long the longest path of at most n edges to node v is, and that from it
-abbrev pub longest_to : List Edge → ℕ → ℕ → ℕ
-longest_to edges zero v = 0
-longest_to edges (suc n) v = greatest (map (λ e. longest_to edges n e.source + 1) (filter (λ e. e.target == v) edges))
+-- how many edges a longest way of at most n has that begins at node v, where each edge leads on from its near end to
+-- its far one
+abbrev pub longest : (Edge → ℕ) → (Edge → ℕ) → List Edge → ℕ → ℕ → ℕ
+longest near far edges zero v = 0
+longest near far edges (suc n) v = greatest (map (λ e. longest near far edges n (far e) + 1) (filter (λ e. near e == v) edges))
 
-abbrev pub longest_from : List Edge → ℕ → ℕ → ℕ
-longest_from edges zero v = 0
-longest_from edges (suc n) v = greatest (map (λ e. longest_from edges n e.target + 1) (filter (λ e. e.source == v) edges))
-
--- a path has fewer edges than there are nodes
+-- Of a path to node v, and of one from it. A path has fewer edges than there are nodes.
 abbrev pub down_of : Network → ℕ → ℕ
-down_of N v = longest_to N.edges (length N.nodes) v
+down_of N v = longest (λ e. e.target) (λ e. e.source) N.edges (length N.nodes) v
 
 abbrev pub up_of : Network → ℕ → ℕ
-up_of N v = longest_from N.edges (length N.nodes) v
+up_of N v = longest (λ e. e.source) (λ e. e.target) N.edges (length N.nodes) v
 
 -- an input stands in row 0, an output in the last row, and any other node where there is room for its
 -- longest paths

@@ -1,12 +1,12 @@
 //! The borders of a tile, found once for all edges.
 ghost use Rattle.std.specs.Prelude.{◌≡◌, ◌<◌, ◌∷◌, [], IfOk};
 ghost use Rattle.bx_forms.specs.declared.side.Side.TheVariants.{Left, Right};
-ghost use Rattle.bx_grid.specs.Tiles.{IsTile, border as border_of};
+ghost use Rattle.bx_grid.specs.Tiles.{IsTile, border};
 ghost use Rattle.bx_encode.specs.Sizes.{IsAround};
 
 use crate::frame::Frame;
 use bx_forms::Side;
-use bx_grid::{border, entering};
+use bx_grid::entering;
 use bx_logic::NoMemory;
 use std::alloc::Global;
 
@@ -47,7 +47,10 @@ impl Around {
 // The borders by which something can leave a tile, from left to right.
 pub fn exits(tile: u32) -> [u32; 2]
     requires { tile < 4194304 }
-    ensures { result ≡ border_of tile Left ∷ border_of tile Right ∷ [] }
+    ensures { result ≡ border tile Left ∷ border tile Right ∷ [] }
 {
-    [border(tile, Side::Left), border(tile, Side::Right)]
+    [
+        bx_grid::border(tile, Side::Left),
+        bx_grid::border(tile, Side::Right),
+    ]
 }

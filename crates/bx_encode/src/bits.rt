@@ -3,17 +3,17 @@
 ghost use Rattle.std.specs.Prelude.{◌≡◌, ◌≤◌, ◌<◌, ◌-◌, ◌+◌, true, length, slice_set, Some, IfOk};
 ghost use Rattle.bx_cnf.specs.Formulas.{AllTrue};
 ghost use Rattle.bx_grid.specs.Tiles.{tile_count};
-ghost use Rattle.bx_layout.specs.Layouts.{Stands, edge_on as edge_of};
+ghost use Rattle.bx_layout.specs.Layouts.{Stands, edge_on};
 ghost use Rattle.bx_layout.specs.Legal.{IsPlaced, IsLegal};
 ghost use Rattle.bx_layout.specs.Permits.{PermitTest, all_forms};
-ghost use Rattle.bx_encode.specs.Variables.{IsVariable, border_count, variable_count, number as number_of};
+ghost use Rattle.bx_encode.specs.Variables.{IsVariable, border_count, variable_count, number};
 ghost use Rattle.bx_encode.specs.Bits.{AreBitsOf, AreBitsSoFar};
 ghost use Rattle.bx_encode.specs.Formula.{formula};
 ghost use Rattle.bx_encode.specs.Sizes.{IsFrame};
 
 use crate::formula::counted;
 use crate::frame::Frame;
-use crate::numbers::{MOST_AREA, MOST_NODES, number};
+use crate::numbers::{MOST_AREA, MOST_NODES, var_of};
 use crate::variable::Variable;
 use bx_grid::Ratio;
 use bx_layout::Layout;
@@ -28,7 +28,8 @@ pub fn bits_of(alloc: Global, net: &MappedNet, layout: &Layout) -> Result<Vec<bo
     requires nodes { length net.now.nodes ≤ MOST_NODES }
     requires area { tile_count layout.now.ratio ≤ MOST_AREA }
     ensures bits { IfOk result (λ bits. AreBitsOf net.now layout.now bits.items) }
-    ensures solve { IfOk result (λ bits. (permit : PermitTest) → IsLegal net.now permit layout.now → AllTrue bits.items (formula net.now permit layout.now.ratio).clauses) }
+    ensures solve { IfOk result (λ bits. (permit : PermitTest) → IsLegal net.now permit layout.now
+        → AllTrue bits.items (formula net.now permit layout.now.ratio).clauses) }
 {
     let count = counted(net, layout.ratio);
     let bits = vec![in alloc; false; count as usize]?;
@@ -99,7 +100,7 @@ fn mark_border(net: &MappedNet, layout: &Layout, b: u32, edge: Option<u32>, bits
     requires frame { IsFrame net.now layout.now.ratio }
     requires placed { IsPlaced net.now layout.now }
     requires border { b < border_count layout.now.ratio }
-    requires edge { edge ≡ edge_of layout.now b }
+    requires edge { edge ≡ edge_on layout.now b }
     requires bits { AreBitsSoFar net.now layout.now (length net.now.nodes) b bits.old }
     ensures { AreBitsSoFar net.now layout.now (length net.now.nodes) (b + 1) bits.new }
 {
@@ -113,7 +114,7 @@ fn mark_edge(net: &MappedNet, layout: &Layout, b: u32, e: u32, bits: &mut [bool]
     requires frame { IsFrame net.now layout.now.ratio }
     requires placed { IsPlaced net.now layout.now }
     requires border { b < border_count layout.now.ratio }
-    requires edge { edge_of layout.now b ≡ Some e }
+    requires edge { edge_on layout.now b ≡ Some e }
     requires bits { AreBitsSoFar net.now layout.now (length net.now.nodes) b bits.old }
     ensures { AreBitsSoFar net.now layout.now (length net.now.nodes) (b + 1) bits.new }
 {
@@ -126,7 +127,7 @@ fn mark(net: &MappedNet, ratio: Ratio, x: Variable, bits: &mut [bool])
     requires frame { IsFrame net.now ratio }
     requires variable { IsVariable net.now ratio x }
     requires all { length bits.old ≡ variable_count net.now ratio }
-    ensures { bits.new ≡ slice_set bits.old (number_of net.now ratio x - 1) true }
+    ensures { bits.new ≡ slice_set bits.old (number net.now ratio x - 1) true }
 {
-    bits[number(net, ratio, x) as usize - 1] = true;
+    bits[var_of(net, ratio, x) as usize - 1] = true;
 }

@@ -1,11 +1,9 @@
 //! The clauses on what borders carry: nothing that leads off the grid, one edge at most, and that a border is
 //! used exactly if it carries one.
-ghost use Rattle.std.specs.Prelude.{◌<◌, ◌∷◌, [], map, filter, is_none, if◌then◌else◌, IfOk};
-ghost use Rattle.bx_forms.specs.declared.side.Side.TheVariants.{Left, Right};
-ghost use Rattle.bx_grid.specs.Tiles.{IsTile, below as tile_below, border as border_of};
-ghost use Rattle.bx_encode.specs.Variables.{is as is_of, isnt as isnt_of, border_count};
-ghost use Rattle.bx_encode.specs.declared.variable.Variable.TheVariants.{EdgeOn, Used};
-ghost use Rattle.bx_encode.specs.Families.{each, edges, stays_on_grid, carries_once, is_used};
+ghost use Rattle.std.specs.Prelude.{◌<◌, ◌∷◌, [], if◌then◌else◌, IfOk};
+ghost use Rattle.bx_grid.specs.Tiles.{IsTile, border};
+ghost use Rattle.bx_encode.specs.Variables.{border_count};
+ghost use Rattle.bx_encode.specs.Families.{leads_off, carries_nothing, stays_at, stays_on_grid, carries_once, uses, carries_some, is_used};
 ghost use Rattle.bx_encode.specs.Writing.{IsFor, Writes};
 
 use crate::frame::Frame;
@@ -13,7 +11,6 @@ use crate::literals::add_edges_on;
 use crate::variable::Variable;
 use crate::writer::Writer;
 use bx_forms::Side;
-use bx_grid::{below, border};
 use bx_logic::NoMemory;
 
 // A border that leads off the grid carries nothing.
@@ -31,7 +28,7 @@ pub fn add_stays_on_grid(frame: &Frame, to: &mut Writer) -> Result<(), NoMemory>
 fn add_stays_at(frame: &Frame, t: u32, to: &mut Writer) -> Result<(), NoMemory>
     requires vars { IsFor frame.now to.old }
     requires tile { IsTile frame.now.ratio t }
-    ensures { IfOk result (λ _. Writes frame.now to.old to.new (λ N r. each (filter (λ side. is_none (tile_below r t side)) (Left ∷ Right ∷ [])) (λ side. map (λ e. isnt_of N r (EdgeOn e (border_of t side)) ∷ []) (edges N r)))) }
+    ensures { IfOk result (λ _. Writes frame.now to.old to.new (λ N r. stays_at N r t)) }
 {
     add_stays(frame, t, Side::Left, to)?;
     add_stays(frame, t, Side::Right, to)
@@ -41,19 +38,20 @@ fn add_stays_at(frame: &Frame, t: u32, to: &mut Writer) -> Result<(), NoMemory>
 fn add_stays(frame: &Frame, t: u32, side: Side, to: &mut Writer) -> Result<(), NoMemory>
     requires vars { IsFor frame.now to.old }
     requires tile { IsTile frame.now.ratio t }
-    ensures { IfOk result (λ _. Writes frame.now to.old to.new (λ N r. if is_none (tile_below r t side) then map (λ e. isnt_of N r (EdgeOn e (border_of t side)) ∷ []) (edges N r) else [])) }
+    ensures { IfOk result (λ _. Writes frame.now to.old to.new
+        (λ N r. if leads_off N r t side then carries_nothing N r (border t side) else [])) }
 {
-    if below(frame.ratio, t, side).is_some() {
+    if bx_grid::below(frame.ratio, t, side).is_some() {
         return Ok(());
     }
-    add_carries_nothing(frame, border(t, side), to)
+    add_carries_nothing(frame, bx_grid::border(t, side), to)
 }
 
 // No edge is on this border.
 fn add_carries_nothing(frame: &Frame, b: u32, to: &mut Writer) -> Result<(), NoMemory>
     requires vars { IsFor frame.now to.old }
     requires border { b < border_count frame.now.ratio }
-    ensures { IfOk result (λ _. Writes frame.now to.old to.new (λ N r. map (λ e. isnt_of N r (EdgeOn e b) ∷ []) (edges N r))) }
+    ensures { IfOk result (λ _. Writes frame.now to.old to.new (λ N r. carries_nothing N r b)) }
 {
     for e in 0..frame.edge_count() {
         to.add(&[frame.isnt(Variable::EdgeOn(e, b))])?;
@@ -90,7 +88,7 @@ pub fn add_is_used(frame: &Frame, to: &mut Writer) -> Result<(), NoMemory>
 fn add_uses(frame: &Frame, b: u32, to: &mut Writer) -> Result<(), NoMemory>
     requires vars { IsFor frame.now to.old }
     requires border { b < border_count frame.now.ratio }
-    ensures { IfOk result (λ _. Writes frame.now to.old to.new (λ N r. map (λ e. is_of N r (Used b) ∷ isnt_of N r (EdgeOn e b) ∷ []) (edges N r))) }
+    ensures { IfOk result (λ _. Writes frame.now to.old to.new (λ N r. uses N r b)) }
 {
     let used = frame.is(Variable::Used(b));
     for e in 0..frame.edge_count() {
@@ -103,7 +101,7 @@ fn add_uses(frame: &Frame, b: u32, to: &mut Writer) -> Result<(), NoMemory>
 fn add_carries_some(frame: &Frame, b: u32, to: &mut Writer) -> Result<(), NoMemory>
     requires vars { IsFor frame.now to.old }
     requires border { b < border_count frame.now.ratio }
-    ensures { IfOk result (λ _. Writes frame.now to.old to.new (λ N r. (isnt_of N r (Used b) ∷ map (λ e. is_of N r (EdgeOn e b)) (edges N r)) ∷ [])) }
+    ensures { IfOk result (λ _. Writes frame.now to.old to.new (λ N r. carries_some N r b ∷ [])) }
 {
     to.list.clear();
     to.list.push(frame.isnt(Variable::Used(b)))?;

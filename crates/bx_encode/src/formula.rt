@@ -3,7 +3,7 @@
 ghost use Rattle.std.specs.Prelude.{◌≡◌, ◌≤◌, length, IfOk};
 ghost use Rattle.bx_grid.specs.Tiles.{tile_count, IsGrid};
 ghost use Rattle.bx_layout.specs.Permits.{test_of};
-ghost use Rattle.bx_encode.specs.Variables.{variable_count as variable_count_of};
+ghost use Rattle.bx_encode.specs.Variables.{variable_count};
 ghost use Rattle.bx_encode.specs.Formula.{place_clauses, border_clauses, way_clauses, formula};
 ghost use Rattle.bx_encode.specs.Sizes.{IsFrame};
 ghost use Rattle.bx_encode.specs.Writing.{IsFor, Writes};
@@ -58,7 +58,7 @@ pub fn counted(net: &MappedNet, ratio: Ratio) -> u32
     requires grid { IsGrid ratio }
     requires nodes { length net.now.nodes ≤ MOST_NODES }
     requires area { tile_count ratio ≤ MOST_AREA }
-    ensures is { result ≡ variable_count_of net.now ratio }
+    ensures is { result ≡ variable_count net.now ratio }
     ensures few { result ≤ 2147483647 }
     ensures frame { IsFrame net.now ratio }
 {

@@ -24,6 +24,6 @@ mod writer;
 
 pub use bits::bits_of;
 pub use formula::encode;
-pub use numbers::{MOST_AREA, MOST_NODES, number};
+pub use numbers::{MOST_AREA, MOST_NODES, var_of};
 pub use rule::Rule;
 pub use variable::Variable;

@@ -1,10 +1,9 @@
 //! Lists of literals that are told by where they begin and by how much they rise.
-ghost use Rattle.std.specs.Prelude.{◌≡◌, ℕ, ◌+◌, ◌*◌, ◌<◌, ◌≤◌, ◌^◌, ◌++◌, Contains, map, length, IfOk, false};
-ghost use Rattle.std.specs.List.{range_with_len};
+ghost use Rattle.std.specs.Prelude.{◌≡◌, ◌<◌, ◌≤◌, ◌^◌, ◌++◌, length, IfOk, false};
 ghost use Rattle.bx_grid.specs.Tiles.{IsTile};
-ghost use Rattle.bx_encode.specs.Variables.{border_count, number, isnt};
-ghost use Rattle.bx_encode.specs.declared.variable.Variable.TheVariants.{NodeOn, EdgeOn};
-ghost use Rattle.bx_encode.specs.Families.{nodes, edges, tiles};
+ghost use Rattle.bx_encode.specs.Variables.{border_count, HasBorders};
+ghost use Rattle.bx_encode.specs.Families.{on_tiles, nodes_on, edges_on, on_borders};
+ghost use Rattle.bx_encode.specs.Writing.{rising};
 
 use crate::frame::Frame;
 use bx_cnf::Lit;
@@ -22,7 +21,8 @@ fn add_rising(
     requires first { first ≤ 70000 }
     requires step { step ≤ 300 }
     requires count { count ≤ 200 }
-    ensures { IfOk result (λ _. list.new.items ≡ list.old.items ++ map (λ k. record { var = first + k * step; positive = positive }) (range_with_len 0 count)) }
+    ensures { IfOk result (λ _. list.new.items ≡ list.old.items
+        ++ rising first step positive count) }
 {
     for k in 0..count {
         list.push(literal(first + k * step, positive))?;
@@ -38,7 +38,8 @@ pub fn add_tiles_of(
     list: &mut Vec<Lit>,
 ) -> Result<(), NoMemory>
     requires node { v < length frame.now.net.now.nodes }
-    ensures { IfOk result (λ _. list.new.items ≡ list.old.items ++ map (λ t. record { var = number frame.now.net.now frame.now.ratio (NodeOn v t); positive = positive }) (tiles frame.now.net.now frame.now.ratio)) }
+    ensures { IfOk result (λ _. list.new.items ≡ list.old.items
+        ++ on_tiles frame.now.net.now frame.now.ratio positive v) }
 {
     add_rising(frame.node_on(v, 0), 1, frame.tile_count(), positive, list)
 }
@@ -46,7 +47,8 @@ pub fn add_tiles_of(
 // Puts the literals that no node stands on a tile behind the others.
 pub fn add_nodes_off(frame: &Frame, t: u32, list: &mut Vec<Lit>) -> Result<(), NoMemory>
     requires tile { IsTile frame.now.ratio t }
-    ensures { IfOk result (λ _. list.new.items ≡ list.old.items ++ map (λ v. isnt frame.now.net.now frame.now.ratio (NodeOn v t)) (nodes frame.now.net.now frame.now.ratio)) }
+    ensures { IfOk result (λ _. list.new.items ≡ list.old.items
+        ++ nodes_on frame.now.net.now frame.now.ratio false t) }
 {
     add_rising(
         frame.node_on(0, t),
@@ -65,7 +67,8 @@ pub fn add_edges_on(
     list: &mut Vec<Lit>,
 ) -> Result<(), NoMemory>
     requires border { b < border_count frame.now.ratio }
-    ensures { IfOk result (λ _. list.new.items ≡ list.old.items ++ map (λ e. record { var = number frame.now.net.now frame.now.ratio (EdgeOn e b); positive = positive }) (edges frame.now.net.now frame.now.ratio)) }
+    ensures { IfOk result (λ _. list.new.items ≡ list.old.items
+        ++ edges_on frame.now.net.now frame.now.ratio positive b) }
 {
     add_rising(
         frame.edge_on(0, b),
@@ -85,8 +88,9 @@ pub fn add_on(
     list: &mut Vec<Lit>,
 ) -> Result<(), NoMemory>
     requires edge { e < length frame.now.net.now.edges }
-    requires borders { (b : ℕ) → Contains borders.now b → b < border_count frame.now.ratio }
-    ensures { IfOk result (λ _. list.new.items ≡ list.old.items ++ map (λ b. record { var = number frame.now.net.now frame.now.ratio (EdgeOn e b); positive = positive }) borders.now) }
+    requires borders { HasBorders frame.now.ratio borders.now }
+    ensures { IfOk result (λ _. list.new.items ≡ list.old.items
+        ++ on_borders frame.now.net.now frame.now.ratio positive e borders.now) }
 {
     for b in borders {
         list.push(literal(frame.edge_on(e, *b), positive))?;

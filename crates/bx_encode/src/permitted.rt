@@ -1,15 +1,14 @@
 //! The clauses against forms that aren't permitted, tile by tile and form by form.
-ghost use Rattle.std.specs.Prelude.{◌≡◌, ◌<◌, ◌&&◌, ◌++◌, ◌∷◌, [], Some, None, map, filter, not, length, slice_get, true, false, if◌then◌else◌, IfOk, IfSome};
-ghost use Rattle.std.specs.List.{range_with_len};
-ghost use Rattle.bx_forms.specs.declared.table.TheConstants.{FORMS as TABLE};
+ghost use Rattle.std.specs.Prelude.{◌≡◌, ◌<◌, ◌&&◌, ◌++◌, [], None, not, length, true, false, if◌then◌else◌, IfOk, IfSome};
+ghost use Rattle.bx_forms.specs.declared.table.TheConstants.{FORMS};
 ghost use Rattle.bx_forms.specs.declared.side.Side.TheVariants.{Left, Right};
 ghost use Rattle.bx_forms.specs.Forms.{form_node, form_upper, form_lower, form_value};
-ghost use Rattle.bx_grid.specs.Tiles.{IsTile, border as border_of, entering as border_in};
+ghost use Rattle.bx_grid.specs.Tiles.{IsTile};
 ghost use Rattle.bx_layout.specs.Permits.{test_of};
 ghost use Rattle.bx_layout.specs.TileForms.{on_side};
-ghost use Rattle.bx_encode.specs.declared.variable.Variable.TheVariants.{NodeOn, Used, EdgeOn};
-ghost use Rattle.bx_encode.specs.Variables.{border_count, number, isnt as isnt_of};
-ghost use Rattle.bx_encode.specs.Families.{each, nodes, edges, listed, kind_number as number_of_kind, has_kind, used_side as used_side_of, bars_node, bars_wire, bars_two, bars, is_permitted};
+ghost use Rattle.bx_encode.specs.declared.variable.Variable.TheVariants.{Used};
+ghost use Rattle.bx_encode.specs.Variables.{border_count, literal_for};
+ghost use Rattle.bx_encode.specs.Families.{kind_number, used_side, is_of_kind, bars_above, bars_below, bars_both, bars_node, bars_nodes, used_unlike, bars_wire, bars_way, bars_two, bars, bars_all, is_permitted};
 ghost use Rattle.bx_encode.specs.Writing.{IsFor, Writes};
 
 use crate::frame::Frame;
@@ -35,7 +34,8 @@ struct Spot {
 // No tile has a form that isn't permitted there.
 pub fn add_is_permitted(frame: &Frame, permit: &Permit, to: &mut Writer) -> Result<(), NoMemory>
     requires vars { IsFor frame.now to.old }
-    ensures { IfOk result (λ _. Writes frame.now to.old to.new (λ N r. is_permitted N r (test_of permit.now))) }
+    ensures { IfOk result (λ _. Writes frame.now to.old to.new
+        (λ N r. is_permitted N r (test_of permit.now))) }
 {
     for t in 0..frame.tile_count() {
         add_permitted_on(frame, permit, t, to)?;
@@ -47,7 +47,8 @@ pub fn add_is_permitted(frame: &Frame, permit: &Permit, to: &mut Writer) -> Resu
 fn add_permitted_on(frame: &Frame, permit: &Permit, t: u32, to: &mut Writer) -> Result<(), NoMemory>
     requires vars { IsFor frame.now to.old }
     requires tile { IsTile frame.now.ratio t }
-    ensures { IfOk result (λ _. Writes frame.now to.old to.new (λ N r. each (filter (λ form. not (test_of permit.now r t form)) (range_with_len 0 (length TABLE))) (bars N r t))) }
+    ensures { IfOk result (λ _. Writes frame.now to.old to.new
+        (λ N r. bars_all N r (test_of permit.now) t)) }
 {
     for number in 0..FORM_COUNT {
         add_numbered(frame, permit, t, number, to)?;
@@ -65,8 +66,9 @@ fn add_numbered(
 ) -> Result<(), NoMemory>
     requires vars { IsFor frame.now to.old }
     requires tile { IsTile frame.now.ratio t }
-    requires form { number < length TABLE }
-    ensures { IfOk result (λ _. Writes frame.now to.old to.new (λ N r. if not (test_of permit.now r t number) then bars N r t number else [])) }
+    requires form { number < length FORMS }
+    ensures { IfOk result (λ _. Writes frame.now to.old to.new
+        (λ N r. if not (test_of permit.now r t number) then bars N r t number else [])) }
 {
     match Form::from_number(number) {
         Some(form) => add_unless_permitted(frame, permit, t, form, to),
@@ -84,7 +86,8 @@ fn add_unless_permitted(
 ) -> Result<(), NoMemory>
     requires vars { IsFor frame.now to.old }
     requires tile { IsTile frame.now.ratio t }
-    ensures { IfOk result (λ _. Writes frame.now to.old to.new (λ N r. if not (test_of permit.now r t form) then bars N r t form else [])) }
+    ensures { IfOk result (λ _. Writes frame.now to.old to.new
+        (λ N r. if not (test_of permit.now r t form) then bars N r t form else [])) }
 {
     if permit.allows(frame.ratio, t, form) {
         return Ok(());
@@ -98,8 +101,8 @@ fn add_bars(frame: &Frame, t: u32, form: Form, to: &mut Writer) -> Result<(), No
     requires tile { IsTile frame.now.ratio t }
     ensures { IfOk result (λ _. Writes frame.now to.old to.new (λ N r. bars N r t form)) }
 {
-    let upper = used_side(form.upper());
-    let lower = used_side(form.lower());
+    let upper = side_of(form.upper());
+    let lower = side_of(form.lower());
     let spot = Spot {
         tile: t,
         upper,
@@ -112,15 +115,15 @@ fn add_bars(frame: &Frame, t: u32, form: Form, to: &mut Writer) -> Result<(), No
 }
 
 // The one side that is used, where one is.
-fn used_side(sides: Sides) -> Side
-    ensures { result ≡ used_side_of sides }
+fn side_of(sides: Sides) -> Side
+    ensures { result ≡ used_side sides }
 {
     if sides.left { Side::Left } else { Side::Right }
 }
 
 // The number of a kind.
-fn kind_number(kind: Kind) -> u8
-    ensures { result ≡ number_of_kind kind }
+fn rank_of(kind: Kind) -> u8
+    ensures { result ≡ kind_number kind }
 {
     match kind {
         Kind::Input => 0,
@@ -140,7 +143,8 @@ fn kind_number(kind: Kind) -> u8
 fn add_bars_nodes(frame: &Frame, spot: Spot, kind: Kind, to: &mut Writer) -> Result<(), NoMemory>
     requires vars { IsFor frame.now to.old }
     requires tile { IsTile frame.now.ratio spot.tile }
-    ensures { IfOk result (λ _. Writes frame.now to.old to.new (λ N r. each (filter (λ v. has_kind kind (slice_get N.nodes v)) (nodes N r)) (bars_node N r spot.tile spot.upper spot.lower kind))) }
+    ensures { IfOk result (λ _. Writes frame.now to.old to.new
+        (λ N r. bars_nodes N r spot.tile spot.upper spot.lower kind)) }
 {
     for v in 0..frame.node_count() {
         add_bars_if(frame, spot, kind, v, to)?;
@@ -159,10 +163,12 @@ fn add_bars_if(
     requires vars { IsFor frame.now to.old }
     requires tile { IsTile frame.now.ratio spot.tile }
     requires node { v < length frame.now.net.now.nodes }
-    ensures { IfOk result (λ _. Writes frame.now to.old to.new (λ N r. if has_kind kind (slice_get N.nodes v) then bars_node N r spot.tile spot.upper spot.lower kind v else [])) }
+    ensures { IfOk result (λ _. Writes frame.now to.old to.new
+        (λ N r. if is_of_kind N r kind v
+        then bars_node N r spot.tile spot.upper spot.lower kind v else [])) }
 {
     let node = frame.net.node(v);
-    if kind_number(node.kind) != kind_number(kind) {
+    if rank_of(node.kind) != rank_of(kind) {
         return Ok(());
     }
     add_bars_node(frame, spot, kind, v, to)
@@ -179,7 +185,8 @@ fn add_bars_node(
     requires vars { IsFor frame.now to.old }
     requires tile { IsTile frame.now.ratio spot.tile }
     requires node { v < length frame.now.net.now.nodes }
-    ensures { IfOk result (λ _. Writes frame.now to.old to.new (λ N r. bars_node N r spot.tile spot.upper spot.lower kind v)) }
+    ensures { IfOk result (λ _. Writes frame.now to.old to.new
+        (λ N r. bars_node N r spot.tile spot.upper spot.lower kind v)) }
 {
     match kind {
         Kind::Output | Kind::Fan => add_off_above(frame, spot, v, to),
@@ -193,7 +200,8 @@ fn add_off_above(frame: &Frame, spot: Spot, v: u32, to: &mut Writer) -> Result<(
     requires vars { IsFor frame.now to.old }
     requires tile { IsTile frame.now.ratio spot.tile }
     requires node { v < length frame.now.net.now.nodes }
-    ensures { IfOk result (λ _. Writes frame.now to.old to.new (λ N r. map (λ a. isnt_of N r (NodeOn v spot.tile) ∷ isnt_of N r (Used a) ∷ []) (listed (border_in r spot.tile spot.upper)))) }
+    ensures { IfOk result (λ _. Writes frame.now to.old to.new
+        (λ N r. bars_above N r spot.tile spot.upper v)) }
 {
     let Some(above) = entering(frame.ratio, spot.tile, spot.upper) else {
         return Ok(());
@@ -208,7 +216,8 @@ fn add_off_below(frame: &Frame, spot: Spot, v: u32, to: &mut Writer) -> Result<(
     requires vars { IsFor frame.now to.old }
     requires tile { IsTile frame.now.ratio spot.tile }
     requires node { v < length frame.now.net.now.nodes }
-    ensures { IfOk result (λ _. Writes frame.now to.old to.new (λ N r. (isnt_of N r (NodeOn v spot.tile) ∷ isnt_of N r (Used (border_of spot.tile spot.lower)) ∷ []) ∷ [])) }
+    ensures { IfOk result (λ _. Writes frame.now to.old to.new
+        (λ N r. bars_below N r spot.tile spot.lower v)) }
 {
     let below = border(spot.tile, spot.lower);
     let place = frame.isnt(Variable::NodeOn(v, spot.tile));
@@ -221,7 +230,8 @@ fn add_off_both(frame: &Frame, spot: Spot, v: u32, to: &mut Writer) -> Result<()
     requires vars { IsFor frame.now to.old }
     requires tile { IsTile frame.now.ratio spot.tile }
     requires node { v < length frame.now.net.now.nodes }
-    ensures { IfOk result (λ _. Writes frame.now to.old to.new (λ N r. map (λ a. isnt_of N r (NodeOn v spot.tile) ∷ isnt_of N r (Used a) ∷ isnt_of N r (Used (border_of spot.tile spot.lower)) ∷ []) (listed (border_in r spot.tile spot.upper)))) }
+    ensures { IfOk result (λ _. Writes frame.now to.old to.new
+        (λ N r. bars_both N r spot.tile spot.upper spot.lower v)) }
 {
     let Some(above) = entering(frame.ratio, spot.tile, spot.upper) else {
         return Ok(());
@@ -238,8 +248,8 @@ fn add_bars_free(frame: &Frame, spot: Spot, form: Form, to: &mut Writer) -> Resu
     requires vars { IsFor frame.now to.old }
     requires tile { IsTile frame.now.ratio spot.tile }
     requires free { form_node form ≡ None }
-    requires upper { spot.upper ≡ used_side_of (form_upper form) }
-    requires lower { spot.lower ≡ used_side_of (form_lower form) }
+    requires upper { spot.upper ≡ used_side (form_upper form) }
+    requires lower { spot.lower ≡ used_side (form_lower form) }
     ensures { IfOk result (λ _. Writes frame.now to.old to.new (λ N r. bars N r spot.tile form)) }
 {
     let _number = form.number();
@@ -293,7 +303,8 @@ fn add_no_way(
     requires above { above < below }
     requires beside { beside < border_count frame.now.ratio }
     requires below { below < border_count frame.now.ratio }
-    ensures { IfOk result (λ _. Writes frame.now to.old to.new (λ N r. map (λ e. isnt_of N r (Used beside) ∷ isnt_of N r (EdgeOn e above) ∷ isnt_of N r (EdgeOn e below) ∷ []) (edges N r))) }
+    ensures { IfOk result (λ _. Writes frame.now to.old to.new
+        (λ N r. bars_way N r above beside below)) }
 {
     let unused = frame.isnt(Variable::Used(beside));
     for e in 0..frame.edge_count() {
@@ -308,7 +319,8 @@ fn add_no_way(
 fn add_bars_wire(frame: &Frame, spot: Spot, to: &mut Writer) -> Result<(), NoMemory>
     requires vars { IsFor frame.now to.old }
     requires tile { IsTile frame.now.ratio spot.tile }
-    ensures { IfOk result (λ _. Writes frame.now to.old to.new (λ N r. bars_wire N r spot.tile spot.upper spot.lower)) }
+    ensures { IfOk result (λ _. Writes frame.now to.old to.new
+        (λ N r. bars_wire N r spot.tile spot.upper spot.lower)) }
 {
     let Some(_) = entering(frame.ratio, spot.tile, spot.upper) else {
         return Ok(());
@@ -347,7 +359,8 @@ fn add_unlike(
     list: &mut Vec<Lit>,
 ) -> Result<(), NoMemory>
     requires { IfSome b (λ n. n < border_count frame.now.ratio) }
-    ensures { IfOk result (λ _. list.new.items ≡ list.old.items ++ map (λ n. record { var = number frame.now.net.now frame.now.ratio (Used n); positive = not used }) (listed b)) }
+    ensures { IfOk result (λ _. list.new.items ≡ list.old.items
+        ++ used_unlike frame.now.net.now frame.now.ratio b used) }
 {
     let Some(b) = b else {
         return Ok(());
@@ -359,7 +372,7 @@ fn add_unlike(
 // The literal that the border isn't used as told.
 fn unlike(frame: &Frame, b: u32, used: bool) -> Lit
     requires { b < border_count frame.now.ratio }
-    ensures { result ≡ record { var = number frame.now.net.now frame.now.ratio (Used b); positive = not used } }
+    ensures { result ≡ literal_for frame.now.net.now frame.now.ratio (not used) (Used b) }
 {
     if used {
         frame.isnt(Variable::Used(b))

@@ -1,11 +1,10 @@
 //! The clauses on where nodes stand: somewhere, once, apart from each other, on a tile that is taken, and in
 //! their windows.
-ghost use Rattle.std.specs.Prelude.{◌<◌, ◌∷◌, [], map, filter, not, length, if◌then◌else◌, IfOk};
-ghost use Rattle.bx_grid.specs.Tiles.{IsTile, y_of};
-ghost use Rattle.bx_encode.specs.Variables.{is as is_of, isnt as isnt_of};
-ghost use Rattle.bx_encode.specs.declared.variable.Variable.TheVariants.{NodeOn, Taken};
-ghost use Rattle.bx_encode.specs.Windows.{in_window};
-ghost use Rattle.bx_encode.specs.Families.{nodes, tiles, stands_somewhere, stands_once, stands_apart, takes_its_tile, keeps_its_window};
+ghost use Rattle.std.specs.Prelude.{◌<◌, ◌∷◌, [], length, if◌then◌else◌, IfOk};
+ghost use Rattle.bx_grid.specs.Tiles.{IsTile};
+ghost use Rattle.bx_encode.specs.Variables.{isnt};
+ghost use Rattle.bx_encode.specs.declared.variable.Variable.TheVariants.{NodeOn};
+ghost use Rattle.bx_encode.specs.Families.{stands_somewhere, stands_once, stands_apart, takes, takes_its_tile, is_outside, stays_inside, keeps_its_window};
 ghost use Rattle.bx_encode.specs.Writing.{IsFor, Writes};
 
 use crate::frame::Frame;
@@ -68,7 +67,7 @@ pub fn add_takes_its_tile(frame: &Frame, to: &mut Writer) -> Result<(), NoMemory
 fn add_takes(frame: &Frame, t: u32, to: &mut Writer) -> Result<(), NoMemory>
     requires vars { IsFor frame.now to.old }
     requires tile { IsTile frame.now.ratio t }
-    ensures { IfOk result (λ _. Writes frame.now to.old to.new (λ N r. map (λ v. isnt_of N r (NodeOn v t) ∷ is_of N r (Taken t) ∷ []) (nodes N r))) }
+    ensures { IfOk result (λ _. Writes frame.now to.old to.new (λ N r. takes N r t)) }
 {
     let taken = frame.is(Variable::Taken(t));
     for v in 0..frame.node_count() {
@@ -92,7 +91,7 @@ pub fn add_keeps_its_window(frame: &Frame, to: &mut Writer) -> Result<(), NoMemo
 fn add_window(frame: &Frame, v: u32, to: &mut Writer) -> Result<(), NoMemory>
     requires vars { IsFor frame.now to.old }
     requires node { v < length frame.now.net.now.nodes }
-    ensures { IfOk result (λ _. Writes frame.now to.old to.new (λ N r. map (λ t. isnt_of N r (NodeOn v t) ∷ []) (filter (λ t. not (in_window N v (y_of r t) r.h)) (tiles N r)))) }
+    ensures { IfOk result (λ _. Writes frame.now to.old to.new (λ N r. stays_inside N r v)) }
 {
     for t in 0..frame.tile_count() {
         add_outside(frame, v, t, to)?;
@@ -105,7 +104,8 @@ fn add_outside(frame: &Frame, v: u32, t: u32, to: &mut Writer) -> Result<(), NoM
     requires vars { IsFor frame.now to.old }
     requires node { v < length frame.now.net.now.nodes }
     requires tile { IsTile frame.now.ratio t }
-    ensures { IfOk result (λ _. Writes frame.now to.old to.new (λ N r. if not (in_window N v (y_of r t) r.h) then (isnt_of N r (NodeOn v t) ∷ []) ∷ [] else [])) }
+    ensures { IfOk result (λ _. Writes frame.now to.old to.new
+        (λ N r. if is_outside N r v t then (isnt N r (NodeOn v t) ∷ []) ∷ [] else [])) }
 {
     if frame.in_window(v, t) {
         return Ok(());

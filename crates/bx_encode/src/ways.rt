@@ -1,10 +1,10 @@
 //! The clauses on how an edge goes through a tile, rule by rule.
-ghost use Rattle.std.specs.Prelude.{◌<◌, ℕ, ◌++◌, ◌∷◌, [], map, length, IfOk, Contains};
+ghost use Rattle.std.specs.Prelude.{◌<◌, ℕ, ◌++◌, ◌∷◌, [], map, length, false, IfOk, Contains};
 ghost use Rattle.bx_encode.specs.declared.rule.Rule.TheVariants.{ComesFromAbove, GoesOnBelow, JoinsItsEnds, GoesOneWay, KeepsOffNodes};
 ghost use Rattle.bx_cnf.specs.Formulas.{IsClause};
 ghost use Rattle.bx_encode.specs.declared.variable.Variable.TheVariants.{EdgeOn};
-ghost use Rattle.bx_encode.specs.Variables.{border_count, isnt as isnt_of};
-ghost use Rattle.bx_encode.specs.Families.{each, pairs, edges, on_some, rule_clauses, keeps_rule};
+ghost use Rattle.bx_encode.specs.Variables.{HasBorders, isnt};
+ghost use Rattle.bx_encode.specs.Families.{pairs, on_borders, on_some, rule_clauses, keeps_rule_on, keeps_rule};
 ghost use Rattle.bx_encode.specs.Sizes.{IsAround};
 ghost use Rattle.bx_encode.specs.Writing.{IsFor, Writes};
 
@@ -40,7 +40,8 @@ pub fn add_keeps_rule(
 fn add_on_tile(frame: &Frame, rule: Rule, around: &Around, to: &mut Writer) -> Result<(), NoMemory>
     requires vars { IsFor frame.now to.old }
     requires around { IsAround frame.now.net.now frame.now.ratio around.now }
-    ensures { IfOk result (λ _. Writes frame.now to.old to.new (λ N r. each (edges N r) (rule_clauses N r rule around.now.tile))) }
+    ensures { IfOk result (λ _. Writes frame.now to.old to.new
+        (λ N r. keeps_rule_on N r rule around.now.tile)) }
 {
     for e in 0..frame.edge_count() {
         add_rule(frame, rule, around, e, to)?;
@@ -59,7 +60,8 @@ fn add_rule(
     requires vars { IsFor frame.now to.old }
     requires around { IsAround frame.now.net.now frame.now.ratio around.now }
     requires edge { e < length frame.now.net.now.edges }
-    ensures { IfOk result (λ _. Writes frame.now to.old to.new (λ N r. rule_clauses N r rule around.now.tile e)) }
+    ensures { IfOk result (λ _. Writes frame.now to.old to.new
+        (λ N r. rule_clauses N r rule around.now.tile e)) }
 {
     match rule {
         Rule::ComesFromAbove => add_comes_from_above(frame, around, e, to),
@@ -80,7 +82,8 @@ fn add_comes_from_above(
     requires vars { IsFor frame.now to.old }
     requires around { IsAround frame.now.net.now frame.now.ratio around.now }
     requires edge { e < length frame.now.net.now.edges }
-    ensures { IfOk result (λ _. Writes frame.now to.old to.new (λ N r. rule_clauses N r ComesFromAbove around.now.tile e)) }
+    ensures { IfOk result (λ _. Writes frame.now to.old to.new
+        (λ N r. rule_clauses N r ComesFromAbove around.now.tile e)) }
 {
     let coming = around.entries.as_slice();
     let leaving = exits(around.tile);
@@ -101,7 +104,8 @@ fn add_goes_on_below(
     requires vars { IsFor frame.now to.old }
     requires around { IsAround frame.now.net.now frame.now.ratio around.now }
     requires edge { e < length frame.now.net.now.edges }
-    ensures { IfOk result (λ _. Writes frame.now to.old to.new (λ N r. rule_clauses N r GoesOnBelow around.now.tile e)) }
+    ensures { IfOk result (λ _. Writes frame.now to.old to.new
+        (λ N r. rule_clauses N r GoesOnBelow around.now.tile e)) }
 {
     let coming = around.entries.as_slice();
     let below_left = border(around.tile, Side::Left);
@@ -124,7 +128,8 @@ fn add_joins_its_ends(
     requires vars { IsFor frame.now to.old }
     requires around { IsAround frame.now.net.now frame.now.ratio around.now }
     requires edge { e < length frame.now.net.now.edges }
-    ensures { IfOk result (λ _. Writes frame.now to.old to.new (λ N r. rule_clauses N r JoinsItsEnds around.now.tile e)) }
+    ensures { IfOk result (λ _. Writes frame.now to.old to.new
+        (λ N r. rule_clauses N r JoinsItsEnds around.now.tile e)) }
 {
     let coming = around.entries.as_slice();
     let leaving = exits(around.tile);
@@ -139,7 +144,8 @@ fn add_goes_one_way(frame: &Frame, around: &Around, e: u32, to: &mut Writer) -> 
     requires vars { IsFor frame.now to.old }
     requires around { IsAround frame.now.net.now frame.now.ratio around.now }
     requires edge { e < length frame.now.net.now.edges }
-    ensures { IfOk result (λ _. Writes frame.now to.old to.new (λ N r. rule_clauses N r GoesOneWay around.now.tile e)) }
+    ensures { IfOk result (λ _. Writes frame.now to.old to.new
+        (λ N r. rule_clauses N r GoesOneWay around.now.tile e)) }
 {
     let coming = around.entries.as_slice();
     let leaving = exits(around.tile);
@@ -161,7 +167,8 @@ fn add_keeps_off_nodes(
     requires vars { IsFor frame.now to.old }
     requires around { IsAround frame.now.net.now frame.now.ratio around.now }
     requires edge { e < length frame.now.net.now.edges }
-    ensures { IfOk result (λ _. Writes frame.now to.old to.new (λ N r. rule_clauses N r KeepsOffNodes around.now.tile e)) }
+    ensures { IfOk result (λ _. Writes frame.now to.old to.new
+        (λ N r. rule_clauses N r KeepsOffNodes around.now.tile e)) }
 {
     let coming = around.entries.as_slice();
     let leaving = exits(around.tile);
@@ -181,9 +188,11 @@ fn add_some(
     to: &mut Writer,
 ) -> Result<(), NoMemory>
     requires edge { e < length frame.now.net.now.edges }
-    requires borders { (b : ℕ) → Contains borders.now b → b < border_count frame.now.ratio }
-    requires clause { IsClause to.old.clauses.vars (first ∷ on_some frame.now.net.now frame.now.ratio e borders.now) }
-    ensures { IfOk result (λ _. Writes frame.now to.old to.new (λ N r. (first ∷ on_some N r e borders.now) ∷ [])) }
+    requires borders { HasBorders frame.now.ratio borders.now }
+    requires clause { IsClause to.old.clauses.vars
+        (first ∷ on_some frame.now.net.now frame.now.ratio e borders.now) }
+    ensures { IfOk result (λ _. Writes frame.now to.old to.new
+        (λ N r. (first ∷ on_some N r e borders.now) ∷ [])) }
 {
     to.list.clear();
     to.list.push(first)?;
@@ -194,9 +203,11 @@ fn add_some(
 // Adds the clauses that the edge isn't on two of these borders.
 fn add_once(frame: &Frame, e: u32, borders: &[u32], to: &mut Writer) -> Result<(), NoMemory>
     requires edge { e < length frame.now.net.now.edges }
-    requires borders { (b : ℕ) → Contains borders.now b → b < border_count frame.now.ratio }
-    requires clause { IsClause to.old.clauses.vars (map (λ b. isnt_of frame.now.net.now frame.now.ratio (EdgeOn e b)) borders.now) }
-    ensures { IfOk result (λ _. Writes frame.now to.old to.new (λ N r. pairs (map (λ b. isnt_of N r (EdgeOn e b)) borders.now))) }
+    requires borders { HasBorders frame.now.ratio borders.now }
+    requires clause { IsClause to.old.clauses.vars
+        (on_borders frame.now.net.now frame.now.ratio false e borders.now) }
+    ensures { IfOk result (λ _. Writes frame.now to.old to.new
+        (λ N r. pairs (on_borders N r false e borders.now))) }
 {
     to.list.clear();
     add_on(frame, e, false, borders, &mut to.list)?;
@@ -212,9 +223,11 @@ fn add_none(
     to: &mut Writer,
 ) -> Result<(), NoMemory>
     requires edge { e < length frame.now.net.now.edges }
-    requires borders { (b : ℕ) → Contains borders.now b → b < border_count frame.now.ratio }
-    requires clause { (b : ℕ) → Contains borders.now b → IsClause to.old.clauses.vars (before.now ++ isnt_of frame.now.net.now frame.now.ratio (EdgeOn e b) ∷ []) }
-    ensures { IfOk result (λ _. Writes frame.now to.old to.new (λ N r. map (λ b. before.now ++ isnt_of N r (EdgeOn e b) ∷ []) borders.now)) }
+    requires borders { HasBorders frame.now.ratio borders.now }
+    requires clause { (b : ℕ) → Contains borders.now b → IsClause to.old.clauses.vars
+        (before.now ++ isnt frame.now.net.now frame.now.ratio (EdgeOn e b) ∷ []) }
+    ensures { IfOk result (λ _. Writes frame.now to.old to.new
+        (λ N r. map (λ b. before.now ++ isnt N r (EdgeOn e b) ∷ []) borders.now)) }
 {
     to.list.clear();
     to.list.extend_from_slice(before)?;

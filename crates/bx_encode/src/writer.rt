@@ -1,7 +1,7 @@
 //! Where the clauses of a formula are put, one behind the other.
 ghost use Rattle.std.specs.Prelude.{◌<◌, ℕ, ◌++◌, [], ◌∷◌, map, length, IfOk, Contains};
 ghost use Rattle.bx_cnf.specs.Formulas.{IsClause};
-ghost use Rattle.bx_encode.specs.Variables.{border_count, isnt as isnt_of};
+ghost use Rattle.bx_encode.specs.Variables.{HasBorders, isnt};
 ghost use Rattle.bx_encode.specs.declared.variable.Variable.TheVariants.{EdgeOn};
 ghost use Rattle.bx_encode.specs.Families.{pairs};
 ghost use Rattle.bx_encode.specs.Sizes.{Adds};
@@ -32,7 +32,8 @@ impl Writer {
     // Adds the clause of the list's literals.
     pub fn add_list(&mut self) -> Result<(), NoMemory>
         requires { IsClause self.old.clauses.vars self.old.list.items }
-        ensures { IfOk result (λ _. Adds self.old.clauses self.new.clauses (self.old.list.items ∷ [])) }
+        ensures { IfOk result (λ _. Adds self.old.clauses self.new.clauses
+            (self.old.list.items ∷ [])) }
     {
         push(&mut self.clauses, &self.list)
     }
@@ -40,7 +41,8 @@ impl Writer {
     // Adds a clause for each two of the list's literals.
     pub fn add_pairs(&mut self) -> Result<(), NoMemory>
         requires { IsClause self.old.clauses.vars self.old.list.items }
-        ensures { IfOk result (λ _. Adds self.old.clauses self.new.clauses (pairs self.old.list.items)) }
+        ensures { IfOk result (λ _. Adds self.old.clauses self.new.clauses
+            (pairs self.old.list.items)) }
     {
         push_pairs(&mut self.clauses, &self.list)
     }
@@ -55,9 +57,13 @@ impl Writer {
         behind: &[Lit],
     ) -> Result<(), NoMemory>
         requires edge { e < length frame.now.net.now.edges }
-        requires borders { (b : ℕ) → Contains borders.now b → b < border_count frame.now.ratio }
-        requires clause { (b : ℕ) → Contains borders.now b → IsClause self.old.clauses.vars (self.old.list.items ++ isnt_of frame.now.net.now frame.now.ratio (EdgeOn e b) ∷ behind.now) }
-        ensures { IfOk result (λ _. Adds self.old.clauses self.new.clauses (map (λ b. self.old.list.items ++ isnt_of frame.now.net.now frame.now.ratio (EdgeOn e b) ∷ behind.now) borders.now)) }
+        requires borders { HasBorders frame.now.ratio borders.now }
+        requires clause { (b : ℕ) → Contains borders.now b → IsClause self.old.clauses.vars
+            (self.old.list.items
+            ++ isnt frame.now.net.now frame.now.ratio (EdgeOn e b) ∷ behind.now) }
+        ensures { IfOk result (λ _. Adds self.old.clauses self.new.clauses
+            (map (λ b. self.old.list.items
+            ++ isnt frame.now.net.now frame.now.ratio (EdgeOn e b) ∷ behind.now) borders.now)) }
     {
         let length = self.list.len();
         for b in borders {

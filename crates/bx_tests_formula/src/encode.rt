@@ -6,6 +6,7 @@ use crate::laid::{
     ON_FOUR_TILES, ON_TWO_TILES, Sample, WITH_A_CROSSING, WITH_A_GATE, WITH_A_WIRE,
     WITH_AN_INVERSION, bits_of_sample, each_bit_is_wanted, formula_of, satisfies,
 };
+use crate::large::ladder;
 use bx_cnf::{Clauses, Lit};
 use bx_grid::Ratio;
 use bx_network::MappedNet;
@@ -119,6 +120,14 @@ const OF_HALF_ADDER: &[Count] = &[(3, 4, &[], 324, 3272), (3, 5, &[], 405, 4286)
 #[test]
 fn the_formulas_of_a_half_adder_are_counted(rt: HostRuntime) -> Result<(), Fail> {
     are_counted(&rt, rt.alloc(), &half_adder(rt.alloc())?, OF_HALF_ADDER)
+}
+
+// As many nodes and tiles as a formula may have. Each clause is counted, so none is left out for want of a number.
+const OF_A_LADDER: &[Count] = &[(12, 12, &[], 54_864, 4_867_971)];
+
+#[test]
+fn the_largest_formula_is_counted(rt: HostRuntime) -> Result<(), Fail> {
+    are_counted(&rt, rt.alloc(), &ladder(rt.alloc())?, OF_A_LADDER)
 }
 
 fn are_counted(

@@ -13,3 +13,5 @@ mod decode;
 mod encode;
 #[cfg(test)]
 mod laid;
+#[cfg(test)]
+mod large;

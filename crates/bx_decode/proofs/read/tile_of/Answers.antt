@@ -6,4 +6,4 @@ use Rattle.bx_decode.proofs.read.tile_of.Goals as goal
 pub unreachable-requires : goal.unreachable-requires
 unreachable-requires c =
     let (t, ((node, tile), on)) = c.requires.stand c.args.v c.requires.node in
-    false≢true (sym (c.loop-t.invariant t (omega (arith, c.tile_count-t-end.ensures.is))) ∙ on)
+    false≢true (sym (c.loop-t.invariant t (omega (arith, c.tiles_of-t-end.ensures.is))) ∙ on)

@@ -6,7 +6,7 @@ use Rattle.std.proofs.lemmas.Grind.{flat_map-append}
 use Rattle.std.proofs.lemmas.List.{append-nil}
 use Rattle.std.specs.Prelude.{MatchResult}
 use Rattle.std.specs.List.{AllByRecursion, flat_map}
-use Rattle.bx_grid.specs.Orders.{AreLimits}
+use Rattle.bx_grid.specs.Orders.{AreLimits, IsRatio}
 use Rattle.bx_grid.specs.declared.ratio.Ratio.{Ratio}
 use Rattle.bx_lines.specs.Lines.{IsLine, ended, text_of, IsFirstBadLine}
 use Rattle.bx_lines.specs.Grammars.{Lead, IsText}
@@ -26,8 +26,7 @@ use Rattle.bx_cert.specs.declared.parts.Spot.{Spot}
 use Rattle.bx_cert.specs.declared.parts.Section.{Section}
 use Rattle.bx_cert.specs.declared.parts.CertLast.{CertLast}
 use Rattle.bx_cert.specs.declared.parts.CertLast.TheVariants.{Found, Undecided, NoneWithin}
-use Rattle.bx_cert.specs.declared.parts.TheConstants.{MOST_BUDGET}
-use Rattle.bx_cert.specs.Certs.{Certificate, IsRatio, IsSpot, IsSection, IsRefutation, IsLast, IsCert}
+use Rattle.bx_cert.specs.Certs.{Certificate, IsSpot, IsSection, IsRefutation, IsLast, IsCert}
 use Rattle.bx_cert.specs.Texts.{line_text, section_lines, refutation_lines, last_lines, cert_lines, IsTextOf, IsCertText, Reads}
 use Rattle.bx_cert.specs.Grammar.{IsSaid, Draft, with_section, ended_by, State, at_head, at_limits, at_section, at_first_step, at_step, at_place, at_end, at_nothing, Leads, GoesByLine, log_of, behind_steps, Goes, Ends, cert_grammar}
 use Rattle.bx_cert.proofs.CertGrammar.{cert_is_line_grammar, goes_line, steps_whole, steps_more}
@@ -115,7 +114,7 @@ cert_lead c is =
 
 pub record IsDraft (d : Draft) : Type 0 where
   pub limits : AreLimits d.limits
-  pub budget : d.budget ≤ MOST_BUDGET
+  pub budget : d.budget ≤ 67108864
   pub sections : AllByRecursion IsSection d.sections
 
 abbrev draft_lines : Draft → List (List ℕ)

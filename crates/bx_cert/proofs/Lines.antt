@@ -3,7 +3,7 @@ use Rattle.std.proofs.Common.{◌≡◌, ℕ, ◌+◌, ◌<◌, ◌≤◌, List,
 use Rattle.std.proofs.lemmas.List.{append_cancel_left}
 use Rattle.std.specs.Prelude.{codes}
 use Rattle.std.specs.List.{AllByRecursion}
-use Rattle.bx_grid.specs.Orders.{AreLimits}
+use Rattle.bx_grid.specs.Orders.{AreLimits, IsRatio}
 use Rattle.bx_grid.specs.declared.ratio.Ratio.{Ratio}
 use Rattle.bx_grid.specs.declared.ratio.Limits.{Limits}
 use Rattle.bx_grid.specs.declared.count.CountProof.{CountProof}
@@ -12,8 +12,7 @@ use Rattle.bx_lines.specs.Decimals.{EndsNumber}
 use Rattle.bx_cert.specs.declared.line.Line.{Line}
 use Rattle.bx_cert.specs.declared.line.Line.TheVariants.{Head, Bounds, Counted, Run, FoundAt, GaveUp, NoRatio, Place, End}
 use Rattle.bx_cert.specs.declared.parts.Spot.{Spot}
-use Rattle.bx_cert.specs.declared.parts.TheConstants.{MOST_BUDGET}
-use Rattle.bx_cert.specs.Certs.{IsNumber, IsRatio}
+use Rattle.bx_cert.specs.Certs.{IsNumber}
 use Rattle.bx_cert.specs.Texts.{numbers, count_text, line_text}
 use Rattle.bx_cert.specs.Readings.{AreNumbersAt, IsWordedAt, IsCountAt, IsLineAt, IsRareLine}
 use Rattle.bx_cert.proofs.Words.{one_numbers, worded_here, worded_from, one_of, two_of, three_of, four_of}
@@ -26,7 +25,7 @@ ratio_numbers r is = ((omega (arith, is.width)), ((omega (arith, is.height)), tt
 pub sized_numbers : (r : Ratio) (n : ℕ) → IsRatio r → IsNumber n → AllByRecursion IsNumber (r.w ∷ r.h ∷ n ∷ [])
 sized_numbers r n is small = ((omega (arith, is.width)), ((omega (arith, is.height)), (small, tt)))
 
-pub limit_numbers : (l : Limits) (b : ℕ) → AreLimits l → b ≤ MOST_BUDGET → AllByRecursion IsNumber (l.area ∷ l.width ∷ l.height ∷ b ∷ [])
+pub limit_numbers : (l : Limits) (b : ℕ) → AreLimits l → b ≤ 67108864 → AllByRecursion IsNumber (l.area ∷ l.width ∷ l.height ∷ b ∷ [])
 limit_numbers l b is le = ((omega (arith, is.area)), ((omega (arith, is.width)), ((omega (arith, is.height)), ((omega (arith, le)), tt))))
 
 -- from a line to its numbers
@@ -57,7 +56,7 @@ limits_of ns = record { area = get_or ns 0 0; width = get_or ns 1 0; height = ge
 abbrev pub spot_of : List ℕ → Spot
 spot_of ns = record { x = get_or ns 0 0; y = get_or ns 1 0 }
 
-pub bounds_here : (bytes ns rest : List ℕ) → length ns ≡ 4 → IsWordedAt bytes (codes "limits") ns rest → AreLimits (limits_of ns) → get_or ns 3 0 ≤ MOST_BUDGET → IsLineAt bytes (Bounds (limits_of ns) (get_or ns 3 0)) rest
+pub bounds_here : (bytes ns rest : List ℕ) → length ns ≡ 4 → IsWordedAt bytes (codes "limits") ns rest → AreLimits (limits_of ns) → get_or ns 3 0 ≤ 67108864 → IsLineAt bytes (Bounds (limits_of ns) (get_or ns 3 0)) rest
 bounds_here bytes ns rest size at is le = record { said = (is, le); spelled = worded_here bytes (codes "limits") ns _ rest at (four_of ns size) }
 
 pub run_here : (bytes ns rest : List ℕ) → length ns ≡ 3 → IsWordedAt bytes (codes "clauses") ns rest → IsRatio (ratio_of ns) → 1 ≤ get_or ns 2 0 → get_or ns 2 0 ≤ 4294967294 → IsLineAt bytes (Run (ratio_of ns) (get_or ns 2 0)) rest

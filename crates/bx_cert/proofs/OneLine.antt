@@ -1,14 +1,12 @@
 -- One line at most stands at the front of bytes, and no byte of a line is a line feed.
-use Rattle.std.proofs.Common.{◌≡◌, ℕ, ◌+◌, ◌*◌, ◌<◌, ◌≤◌, Bool, true, false, cond, List, [], ◌∷◌, ◌++◌, get_or, refl, sym, ◌∙◌, ap, arith}
-use Rattle.std.proofs.lemmas.Bool.{ltb-true}
+use Rattle.std.proofs.Common.{◌≡◌, ℕ, ◌+◌, ◌*◌, ◌<◌, ◌≤◌, true, List, [], ◌∷◌, ◌++◌, get_or, refl, sym, ◌∙◌, ap, arith}
 use Rattle.std.proofs.lemmas.List.{append_cancel_left}
-use Rattle.std.specs.Prelude.{codes, decimal, nat_lt}
+use Rattle.std.specs.Prelude.{codes, decimal}
 use Rattle.std.specs.List.{AllByRecursion}
 use Rattle.bx_grid.specs.declared.count.CountProof.{CountProof}
 use Rattle.bx_grid.specs.declared.count.CountProof.TheVariants.{Late, Crowd, Cut, Pair}
 use Rattle.bx_lines.specs.Lines.{IsLine}
-use Rattle.bx_lines.proofs.Numbers.{decimal_digits}
-use Rattle.bx_logic.proofs.Members.{Member-from_contains, member_of_AllByRecursion}
+use Rattle.bx_lines.proofs.Above.{Above, above, above_are, all_append, decimal_above, above_is_line}
 use Rattle.bx_cert.specs.declared.line.Line.{Line}
 use Rattle.bx_cert.specs.declared.line.Line.TheVariants.{Head, Bounds, Counted, Run, FoundAt, GaveUp, NoRatio, Place, End}
 use Rattle.bx_cert.specs.Certs.{IsNumber, IsCount}
@@ -119,33 +117,10 @@ one_line bytes a b r s x y = absurd (let e : tag_of a ≡ tag_of b = tags bytes 
 
 -- no line feed
 
-abbrev Above : ℕ → Type 0
-Above b = 10 < b
-
-above : List ℕ → Bool
-above [] = true
-above (b ∷ bs) = cond (nat_lt 10 b) (above bs) false
-
-above_are : (bs : List ℕ) → above bs ≡ true → AllByRecursion Above bs
-unfolding above
-above_are [] e = tt
-above_are (b ∷ bs) e = by (nat_lt 10 b) refl e (above_are bs) where
-  by : (t : Bool) → nat_lt 10 b ≡ t → cond t (above bs) false ≡ true → (above bs ≡ true → AllByRecursion Above bs) → (10 < b) × AllByRecursion Above bs
-  by true at e inner = (ltb-true 10 b at, inner e)
-  by false at e inner = let never : ⊥ = cc in absurd never
-
-all_append : {X : Type 0} (P : X → Type 0) (xs ys : List X) → AllByRecursion P xs → AllByRecursion P ys → AllByRecursion P (xs ++ ys)
-all_append P [] ys a b = b
-all_append P (x ∷ xs) ys a b = (a.0, all_append P xs ys a.1 b)
-
-digits_above : (ds : List ℕ) → AllByRecursion (λ b. (48 ≤ b) × (b ≤ 57)) ds → AllByRecursion Above ds
-digits_above [] a = tt
-digits_above (d ∷ ds) a = ((omega (arith, a.0.0)), digits_above ds a.1)
-
 numbers_above : (ns : List ℕ) → AllByRecursion IsNumber ns → AllByRecursion Above (numbers ns)
 numbers_above [] are = tt
 numbers_above (n ∷ ns) are =
-    let digits : AllByRecursion Above (decimal n) = digits_above (decimal n) (decimal_digits n (omega (arith, are.0))) in
+    let digits : AllByRecursion Above (decimal n) = decimal_above n (omega (arith, are.0)) in
     ((omega arith), all_append Above (decimal n) (numbers ns) digits (numbers_above ns are.1))
 
 worded_above : (word ns : List ℕ) → above word ≡ true → AllByRecursion IsNumber ns → AllByRecursion Above (word ++ numbers ns)
@@ -171,6 +146,4 @@ line_above (Place s) said = worded_above (codes "place") (s.x ∷ s.y ∷ []) re
 line_above End said = above_are (codes "end") refl
 
 pub line_is_line : (line : Line) → IsSaid line → IsLine (line_text line)
-line_is_line line said has =
-    let ten : 10 < 10 = member_of_AllByRecursion Above 10 (line_text line) (line_above line said) (Member-from_contains 10 (line_text line) has) in
-    omega (arith, ten)
+line_is_line line said = above_is_line (line_text line) (line_above line said)

@@ -19,7 +19,7 @@ use Rattle.bx_proof.specs.declared.fault.StepFault.{StepFault}
 use Rattle.bx_proof.specs.declared.fault.StepFault.TheVariants.{BadStep, NoMemory}
 use Rattle.bx_cert.specs.declared.fault.CertFault.{CertFault}
 use Rattle.bx_cert.specs.Grammar.{Draft, State, at_first_step, at_step, Goes, cert_grammar, Stops}
-use Rattle.bx_cert.specs.Readings.{HasIds, IsRunAt, StopsAt, FitsBehind, moved}
+use Rattle.bx_cert.specs.Readings.{HasIds, IsRunAt, StopsAt, FitsBehind, fault_behind}
 use Rattle.bx_cert.proofs.CertGrammar.{steps_more}
 use Rattle.bx_cert.proofs.Leading.{first_steps_lead, same_lines}
 use Rattle.bx_cert.proofs.Stopping.{stop_here, stop_behind, lines_fit}
@@ -189,8 +189,8 @@ fault_fits text front count before (BadStep k) some has cut room bad =
     let fits = stop_fits (at_first_step no_draft r count) text k (run_bad no_draft r text front count k some has cut (bad k refl)) in
     omega (arith, fits, room)
 
-pub fault_stops : (d : Draft) (r : Ratio) (text front : List ℕ) (count before : ℕ) (fault : StepFault) (result : CertFault) → 1 ≤ count → HasIds text count → front ≡ first_lines count text → ((k : ℕ) → failed fault ≡ failed (BadStep k) → IsFirstBadLine IsLogText front k) → result ≡ moved before fault → StopsAt (at_first_step d r count) text before result
+pub fault_stops : (d : Draft) (r : Ratio) (text front : List ℕ) (count before : ℕ) (fault : StepFault) (result : CertFault) → 1 ≤ count → HasIds text count → front ≡ first_lines count text → ((k : ℕ) → failed fault ≡ failed (BadStep k) → IsFirstBadLine IsLogText front k) → result ≡ fault_behind before fault → StopsAt (at_first_step d r count) text before result
 fault_stops d r text front count before fault result some has cut bad is = subst (StopsAt (at_first_step d r count) text before) (sym is) (by_fault fault bad) where
-  by_fault : (f : StepFault) → ((k : ℕ) → failed f ≡ failed (BadStep k) → IsFirstBadLine IsLogText front k) → StopsAt (at_first_step d r count) text before (moved before f)
+  by_fault : (f : StepFault) → ((k : ℕ) → failed f ≡ failed (BadStep k) → IsFirstBadLine IsLogText front k) → StopsAt (at_first_step d r count) text before (fault_behind before f)
   by_fault NoMemory bad = tt
   by_fault (BadStep k) bad = (k, refl, run_bad d r text front count k some has cut (bad k refl))

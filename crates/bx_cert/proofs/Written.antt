@@ -1,9 +1,9 @@
 -- The text of a certificate from its parts, as they are put out.
-use Rattle.std.proofs.Common.{◌≡◌, ℕ, suc, zero, ◌<◌, List, [], ◌∷◌, ◌++◌, length, get_or, map, refl, sym, ◌∙◌, ap, arith}
+use Rattle.std.proofs.Common.{◌≡◌, ℕ, List, [], ◌∷◌, ◌++◌, map, refl, sym, ◌∙◌, ap}
 use Rattle.std.proofs.lemmas.Grind.{flat_map-append}
 use Rattle.std.proofs.lemmas.List.{append-nil}
 use Rattle.std.proofs.lemmas.List.Folds.{flat_map-map}
-use Rattle.std.specs.List.{AllByRecursion, flat_map}
+use Rattle.std.specs.List.{flat_map}
 use Rattle.bx_grid.specs.declared.ratio.Ratio.{Ratio}
 use Rattle.bx_grid.specs.declared.ratio.Limits.{Limits}
 use Rattle.bx_lines.specs.Lines.{ended, text_of}
@@ -18,7 +18,7 @@ text_of-flat_map : {X : Type 0} (f : X → List (List ℕ)) (xs : List X) → te
 text_of-flat_map f [] = refl
 text_of-flat_map f (x ∷ xs) = flat_map-append ended (f x) (flat_map f xs) ∙ ap (λ bs. text_of (f x) ++ bs) (text_of-flat_map f xs)
 
-pub cert_is : (c : Certificate) → ended (line_text Head) ++ (ended (line_text (Bounds c.limits c.budget)) ++ (flat_map (λ s. text_of (section_lines s)) c.sections ++ (text_of (last_lines c.last) ++ ended (line_text End)))) ≡ cert_text c
+cert_is : (c : Certificate) → ended (line_text Head) ++ (ended (line_text (Bounds c.limits c.budget)) ++ (flat_map (λ s. text_of (section_lines s)) c.sections ++ (text_of (last_lines c.last) ++ ended (line_text End)))) ≡ cert_text c
 cert_is c =
     let lines = flat_map section_lines c.sections in
     let last : text_of (last_lines c.last ++ line_text End ∷ []) ≡ text_of (last_lines c.last) ++ ended (line_text End) = flat_map-append ended (last_lines c.last) (line_text End ∷ []) ∙ ap (λ bs. text_of (last_lines c.last) ++ bs) (append-nil (ended (line_text End))) in
@@ -28,14 +28,6 @@ cert_is c =
 
 pub found_is : (r : Ratio) (spots : List Spot) → ended (line_text (FoundAt r)) ++ flat_map (λ s. ended (line_text (Place s))) spots ≡ text_of (line_text (FoundAt r) ∷ map (λ s. line_text (Place s)) spots)
 found_is r spots = ap (λ bs. ended (line_text (FoundAt r)) ++ bs) (sym (flat_map-map ended (λ s. line_text (Place s)) spots))
-
-pub one_line_is : (line : List ℕ) → ended line ≡ text_of (line ∷ [])
-one_line_is line = sym (append-nil (ended line))
-
-pub all_at : {X : Type 0} (P : X → Type 0) (xs : List X) (i : ℕ) (d : X) → AllByRecursion P xs → i < length xs → P (get_or xs i d)
-all_at P [] i d all lt = absurd (omega (arith, lt))
-all_at P (x ∷ xs) zero d all lt = all.0
-all_at P (x ∷ xs) (suc i) d all lt = all_at P xs i d all.1 (omega (arith, lt))
 
 -- the same from parts that are those of the certificate
 abbrev pub parts_text : Limits → ℕ → List Section → CertLast → List ℕ

@@ -1,10 +1,9 @@
 -- Certificates: why no ratio before the last one has a layout, and what came of that one.
 use Rattle.std.specs.Prelude.{ℕ, ◌<◌, ◌≤◌, ◌^◌, List, length, ⊤}
 use Rattle.std.specs.List.{AllByRecursion}
-use Rattle.bx_grid.specs.Orders.{AreLimits}
+use Rattle.bx_grid.specs.Orders.{AreLimits, IsRatio}
 use Rattle.bx_grid.specs.declared.ratio.Ratio.{Ratio}
 use Rattle.bx_grid.specs.declared.ratio.Limits.{Limits}
-use Rattle.bx_grid.specs.declared.ratio.TheConstants.{MOST_LIMIT}
 use Rattle.bx_grid.specs.declared.count.CountProof.{CountProof}
 use Rattle.bx_grid.specs.declared.count.CountProof.TheVariants.{Late, Crowd, Cut, Pair}
 use Rattle.bx_proof.specs.Steps.{StepList, AreSteps}
@@ -14,7 +13,6 @@ use Rattle.bx_cert.specs.declared.parts.Spot.{Spot}
 use Rattle.bx_cert.specs.declared.parts.Section.{Section}
 use Rattle.bx_cert.specs.declared.parts.CertLast.{CertLast}
 use Rattle.bx_cert.specs.declared.parts.CertLast.TheVariants.{Found, Undecided, NoneWithin}
-use Rattle.bx_cert.specs.declared.parts.TheConstants.{MOST_BUDGET}
 
 -- the limits and the budget of a search, a section for each ratio that was refuted, and how it ended
 pub record Certificate : Type 0 where
@@ -26,13 +24,6 @@ pub record Certificate : Type 0 where
 -- numbers other than ids, literals and hints
 abbrev pub IsNumber : ℕ → Type 0
 IsNumber n = n < 2 ^ 32
-
--- each side is from 1 to 144
-pub record IsRatio (ratio : Ratio) : Type 0 where
-  pub some_width : 1 ≤ ratio.w
-  pub some_height : 1 ≤ ratio.h
-  pub width : ratio.w ≤ MOST_LIMIT
-  pub height : ratio.h ≤ MOST_LIMIT
 
 pub record IsSpot (spot : Spot) : Type 0 where
   pub x : IsNumber spot.x
@@ -65,6 +56,6 @@ IsLast NoneWithin = ⊤
 -- what a certificate keeps: the ranges of its numbers, and a step at least where a section has steps
 pub record IsCert (cert : Certificate) : Type 0 where
   pub limits : AreLimits cert.limits
-  pub budget : cert.budget ≤ MOST_BUDGET
+  pub budget : cert.budget ≤ 67108864
   pub sections : AllByRecursion IsSection cert.sections
   pub last : IsLast cert.last

@@ -1,7 +1,7 @@
 -- The texts of certificates as a grammar by lines: a way to go on from each line. A state is what was read so
 -- far. It is left by a line alone behind which an ending is left.
 use Rattle.std.specs.Prelude.{◌≡◌, ℕ, ◌+◌, ◌<◌, ◌≤◌, ◌^◌, ◌==◌, List, [], ◌∷◌, ◌++◌, length, ⊤, if◌then◌else◌}
-use Rattle.bx_grid.specs.Orders.{AreLimits}
+use Rattle.bx_grid.specs.Orders.{AreLimits, IsRatio}
 use Rattle.bx_grid.specs.declared.ratio.Ratio.{Ratio}
 use Rattle.bx_grid.specs.declared.ratio.Limits.{Limits}
 use Rattle.bx_lines.specs.Lines.{text_of}
@@ -16,14 +16,13 @@ use Rattle.bx_cert.specs.declared.parts.Spot.{Spot}
 use Rattle.bx_cert.specs.declared.parts.Section.{Section}
 use Rattle.bx_cert.specs.declared.parts.CertLast.{CertLast}
 use Rattle.bx_cert.specs.declared.parts.CertLast.TheVariants.{Found, Undecided, NoneWithin}
-use Rattle.bx_cert.specs.declared.parts.TheConstants.{MOST_BUDGET}
-use Rattle.bx_cert.specs.Certs.{Certificate, IsNumber, IsRatio, IsSpot, IsCount}
+use Rattle.bx_cert.specs.Certs.{Certificate, IsNumber, IsSpot, IsCount}
 use Rattle.bx_cert.specs.Texts.{line_text}
 
 -- what a line says is in its range; so many steps can follow, since the first has an id of 2 at least
 abbrev pub IsSaid : Line → Type 0
 IsSaid Head = ⊤
-IsSaid (Bounds limits budget) = AreLimits limits × (budget ≤ MOST_BUDGET)
+IsSaid (Bounds limits budget) = AreLimits limits × (budget ≤ 67108864)
 IsSaid (Counted ratio proof) = IsRatio ratio × IsCount proof
 IsSaid (Run ratio count) = IsRatio ratio × (1 ≤ count) × (count ≤ 4294967294)
 IsSaid (FoundAt ratio) = IsRatio ratio

@@ -98,9 +98,9 @@ StopsAt from bytes before (BadCert k) = (m : ℕ) × (k ≡ before + m) × Stops
 StopsAt from bytes before NoMemory = ⊤
 
 -- the fault of a log behind so many lines
-abbrev pub moved : ℕ → StepFault → CertFault
-moved before (BadStep k) = BadCert (before + k)
-moved before StepNoMemory = NoMemory
+abbrev pub fault_behind : ℕ → StepFault → CertFault
+fault_behind before (BadStep k) = BadCert (before + k)
+fault_behind before StepNoMemory = NoMemory
 
 -- the number of its line has 64 bits
 abbrev pub FitsBehind : ℕ → StepFault → Type 0

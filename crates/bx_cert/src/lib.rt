@@ -35,7 +35,7 @@ mod value;
 mod write;
 
 pub use fault::CertFault;
-pub use parts::{CertLast, MOST_BUDGET, Section, Sections, Spot, Spots};
+pub use parts::{CertLast, MOST_CERT_BUDGET, Section, Sections, Spot, Spots};
 pub use read::read_cert;
 pub use value::Cert;
 pub use write::write_cert;

@@ -7,7 +7,7 @@ use bx_proof::Refutation;
 use std::marker::Model;
 
 /// The greatest budget of a search.
-pub const MOST_BUDGET: u64 = 67_108_864;
+pub const MOST_CERT_BUDGET: u64 = 67_108_864;
 
 /// The place of a node: its column and its row, each from 0.
 #[derive(Clone, Copy)]

@@ -6,7 +6,7 @@ ghost use Rattle.bx_lines.specs.Lines.{ended, first_lines, IsFirstBadLine};
 ghost use Rattle.bx_cert.specs.Certs.{Certificate};
 ghost use Rattle.bx_cert.specs.Texts.{line_text, section_lines, last_lines, IsTextOf, IsCertText, Reads};
 ghost use Rattle.bx_cert.specs.Grammar.{IsSaid, Draft, at_head, at_limits, at_section, at_first_step, at_place, at_end};
-ghost use Rattle.bx_cert.specs.Readings.{IsLineAt, HasIds, IsRunAt, IsSectionAt, IsNoSection, AreSectionsAt, AreSpotsAt, IsLastAt, IsFrontAt, StopsAt, FitsBehind, moved};
+ghost use Rattle.bx_cert.specs.Readings.{IsLineAt, HasIds, IsRunAt, IsSectionAt, IsNoSection, AreSectionsAt, AreSpotsAt, IsLastAt, IsFrontAt, StopsAt, FitsBehind, fault_behind};
 
 use crate::line::Line;
 use crate::scan::line_at;
@@ -25,11 +25,14 @@ pub fn read_cert(alloc: Global, bytes: &[u8]) -> Result<Cert, CertFault>
     // The certificate that is answered is that of the text.
     ensures found { IfOk result (λ cert. IsTextOf cert bytes.now) }
     // Where the text is that of a certificate it is answered, unless memory runs out.
-    ensures only { (cert : Certificate) → IsTextOf cert bytes.now → MatchResult result (λ answer. answer ≡ cert) (λ fault. fault ≡ CertFault.NoMemory) }
+    ensures only { (cert : Certificate) → IsTextOf cert bytes.now
+        → MatchResult result (λ answer. answer ≡ cert) (λ fault. fault ≡ CertFault.NoMemory) }
     // The line that is answered is the first bad one.
-    ensures bad { (k : ℕ) → result ≡ Err (CertFault.BadCert k) → IsFirstBadLine IsCertText bytes.now k }
+    ensures bad { (k : ℕ) → result ≡ Err (CertFault.BadCert k)
+        → IsFirstBadLine IsCertText bytes.now k }
     // Where there is a first bad line it is answered, unless memory runs out.
-    ensures exact { (k : ℕ) → IsFirstBadLine IsCertText bytes.now k → result ≢ Err CertFault.NoMemory → result ≡ Err (CertFault.BadCert k) }
+    ensures exact { (k : ℕ) → IsFirstBadLine IsCertText bytes.now k
+        → result ≢ Err CertFault.NoMemory → result ≡ Err (CertFault.BadCert k) }
 {
     read_whole(alloc, bytes)
 }
@@ -169,7 +172,7 @@ fn read_run<'a>(
 // The fault of a log as one of a certificate, where so many lines stand before the log.
 fn fault_behind(before: u64, fault: StepFault) -> CertFault
     requires { FitsBehind before fault }
-    ensures { result ≡ moved before fault }
+    ensures { result ≡ fault_behind before fault }
 {
     match fault {
         StepFault::BadStep(line) => CertFault::BadCert(before + line),
@@ -206,7 +209,8 @@ fn cut_lines(text: &[u8], count: u32) -> (&[u8], &[u8])
 // How many of so many lines are left behind this byte.
 fn left_behind(left: u32, byte: u8) -> u32
     requires { 0 < left }
-    ensures { (behind : List ℕ) → first_lines left (byte ∷ behind) ≡ byte ∷ first_lines result behind }
+    ensures { (behind : List ℕ)
+        → first_lines left (byte ∷ behind) ≡ byte ∷ first_lines result behind }
 {
     if byte == b'\n' { left - 1 } else { left }
 }

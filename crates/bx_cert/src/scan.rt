@@ -6,13 +6,12 @@ ghost use Rattle.bx_grid.specs.declared.count.CountProof.{CountProof};
 ghost use Rattle.bx_grid.specs.declared.ratio.Ratio.{Ratio};
 ghost use Rattle.bx_grid.specs.declared.ratio.Limits.{Limits};
 ghost use Rattle.bx_cert.specs.declared.parts.Spot.{Spot};
-ghost use Rattle.bx_grid.specs.Orders.{AreLimits};
+ghost use Rattle.bx_grid.specs.Orders.{AreLimits, IsRatio};
 ghost use Rattle.bx_cert.specs.declared.line.Line.{Line};
-ghost use Rattle.bx_cert.specs.Certs.{IsRatio};
 ghost use Rattle.bx_cert.specs.Readings.{AreNumbersAt, IsWordedAt, IsCountAt, IsLineAt, IsRareLine};
 
 use crate::line::Line;
-use crate::{MOST_BUDGET, Spot};
+use crate::{MOST_CERT_BUDGET, Spot};
 use bx_grid::{CountProof, Limits, MOST_LIMIT, Ratio};
 use bx_lines::number_at;
 
@@ -43,7 +42,8 @@ pub(crate) fn line_at(text: &[u8]) -> Option<(Line, &[u8])>
 // Likewise, of the lines of which there is one at most.
 fn rare_line_at(text: &[u8]) -> Option<(Line, &[u8])>
     ensures found { IfSome result (λ found. IsLineAt text.now found.0 found.1.now) }
-    ensures none { IfNone result ((line : Line) (rest : List ℕ) → IsRareLine line → IsLineAt text.now line rest → ⊥) }
+    ensures none { IfNone result
+        ((line : Line) (rest : List ℕ) → IsRareLine line → IsLineAt text.now line rest → ⊥) }
 {
     if let Some(found) = bounds_at(text) {
         return Some(found);
@@ -67,7 +67,9 @@ fn rare_line_at(text: &[u8]) -> Option<(Line, &[u8])>
 // The line `limits ..`.
 fn bounds_at(text: &[u8]) -> Option<(Line, &[u8])>
     ensures found { IfSome result (λ found. IsLineAt text.now found.0 found.1.now) }
-    ensures none { IfNone result ((limits : Limits) (budget : ℕ) (rest : List ℕ) → IsLineAt text.now (Line.Bounds limits budget) rest → ⊥) }
+    ensures none { IfNone result
+        ((limits : Limits) (budget : ℕ) (rest : List ℕ)
+        → IsLineAt text.now (Line.Bounds limits budget) rest → ⊥) }
 {
     let mut numbers = [0; 4];
     let rest = worded_at(text, b"limits", &mut numbers)?;
@@ -89,7 +91,9 @@ fn bounds_at(text: &[u8]) -> Option<(Line, &[u8])>
 // The line `count ..`.
 fn counted_at(text: &[u8]) -> Option<(Line, &[u8])>
     ensures found { IfSome result (λ found. IsLineAt text.now found.0 found.1.now) }
-    ensures none { IfNone result ((ratio : Ratio) (proof : CountProof) (rest : List ℕ) → IsLineAt text.now (Line.Counted ratio proof) rest → ⊥) }
+    ensures none { IfNone result
+        ((ratio : Ratio) (proof : CountProof) (rest : List ℕ)
+        → IsLineAt text.now (Line.Counted ratio proof) rest → ⊥) }
 {
     let mut sides = [0; 2];
     let rest = numbers_at(behind(text, b"count")?, &mut sides)?;
@@ -107,7 +111,8 @@ fn counted_at(text: &[u8]) -> Option<(Line, &[u8])>
 // The rest of such a line: which count, and its numbers.
 fn count_at(text: &[u8]) -> Option<(CountProof, &[u8])>
     ensures found { IfSome result (λ found. IsCountAt text.now found.0 found.1.now) }
-    ensures none { IfNone result ((proof : CountProof) (rest : List ℕ) → IsCountAt text.now proof rest → ⊥) }
+    ensures none { IfNone result
+        ((proof : CountProof) (rest : List ℕ) → IsCountAt text.now proof rest → ⊥) }
 {
     let mut one = [0; 1];
     if let Some(rest) = worded_at(text, b" late", &mut one) {
@@ -129,7 +134,9 @@ fn count_at(text: &[u8]) -> Option<(CountProof, &[u8])>
 // The line `clauses ..`.
 fn run_at(text: &[u8]) -> Option<(Line, &[u8])>
     ensures found { IfSome result (λ found. IsLineAt text.now found.0 found.1.now) }
-    ensures none { IfNone result ((ratio : Ratio) (count : ℕ) (rest : List ℕ) → IsLineAt text.now (Line.Run ratio count) rest → ⊥) }
+    ensures none { IfNone result
+        ((ratio : Ratio) (count : ℕ) (rest : List ℕ) → IsLineAt text.now (Line.Run ratio count) rest
+        → ⊥) }
 {
     let mut numbers = [0; 3];
     let rest = worded_at(text, b"clauses", &mut numbers)?;
@@ -150,7 +157,8 @@ fn run_at(text: &[u8]) -> Option<(Line, &[u8])>
 // The line `found ..`.
 fn found_at(text: &[u8]) -> Option<(Line, &[u8])>
     ensures found { IfSome result (λ found. IsLineAt text.now found.0 found.1.now) }
-    ensures none { IfNone result ((ratio : Ratio) (rest : List ℕ) → IsLineAt text.now (Line.FoundAt ratio) rest → ⊥) }
+    ensures none { IfNone result
+        ((ratio : Ratio) (rest : List ℕ) → IsLineAt text.now (Line.FoundAt ratio) rest → ⊥) }
 {
     let mut numbers = [0; 2];
     let rest = worded_at(text, b"found", &mut numbers)?;
@@ -168,7 +176,9 @@ fn found_at(text: &[u8]) -> Option<(Line, &[u8])>
 // The line `undecided ..`.
 fn gave_up_at(text: &[u8]) -> Option<(Line, &[u8])>
     ensures found { IfSome result (λ found. IsLineAt text.now found.0 found.1.now) }
-    ensures none { IfNone result ((ratio : Ratio) (spent : ℕ) (rest : List ℕ) → IsLineAt text.now (Line.GaveUp ratio spent) rest → ⊥) }
+    ensures none { IfNone result
+        ((ratio : Ratio) (spent : ℕ) (rest : List ℕ)
+        → IsLineAt text.now (Line.GaveUp ratio spent) rest → ⊥) }
 {
     let mut numbers = [0; 3];
     let rest = worded_at(text, b"undecided", &mut numbers)?;
@@ -186,7 +196,8 @@ fn gave_up_at(text: &[u8]) -> Option<(Line, &[u8])>
 // The line `place ..`.
 fn place_at(text: &[u8]) -> Option<(Line, &[u8])>
     ensures found { IfSome result (λ found. IsLineAt text.now found.0 found.1.now) }
-    ensures none { IfNone result ((spot : Spot) (rest : List ℕ) → IsLineAt text.now (Line.Place spot) rest → ⊥) }
+    ensures none { IfNone result
+        ((spot : Spot) (rest : List ℕ) → IsLineAt text.now (Line.Place spot) rest → ⊥) }
 {
     let mut numbers = [0; 2];
     let rest = worded_at(text, b"place", &mut numbers)?;
@@ -213,9 +224,9 @@ fn is_ratio(ratio: Ratio) -> bool
 
 // Whether a budget is in its range.
 fn is_budget(budget: u64) -> bool
-    ensures { IsTrue result ↔ (budget ≤ MOST_BUDGET) }
+    ensures { IsTrue result ↔ (budget ≤ 67108864) }
 {
-    budget <= MOST_BUDGET
+    budget <= MOST_CERT_BUDGET
 }
 
 // Whether so many steps can follow.
@@ -237,7 +248,9 @@ fn is_side(n: u32) -> bool
 fn worded_at<'a>(text: &'a [u8], word: &[u8], numbers: &mut [u32]) -> Option<&'a [u8]>
     requires { 0 < length numbers.old }
     ensures found { IfSome result (λ rest. IsWordedAt text.now word.now numbers.new rest.now) }
-    ensures none { IfNone result ((ns rest : List ℕ) → length ns ≡ length numbers.old → IsWordedAt text.now word.now ns rest → ⊥) }
+    ensures none { IfNone result
+        ((ns rest : List ℕ) → length ns ≡ length numbers.old → IsWordedAt text.now word.now ns rest
+        → ⊥) }
 {
     let rest = numbers_at(behind(text, word)?, numbers)?;
     behind(rest, b"\n")
@@ -247,7 +260,8 @@ fn worded_at<'a>(text: &'a [u8], word: &[u8], numbers: &mut [u32]) -> Option<&'a
 fn numbers_at<'a>(text: &'a [u8], numbers: &mut [u32]) -> Option<&'a [u8]>
     requires { 0 < length numbers.old }
     ensures found { IfSome result (λ rest. AreNumbersAt text.now numbers.new rest.now) }
-    ensures none { IfNone result ((ns rest : List ℕ) → length ns ≡ length numbers.old → AreNumbersAt text.now ns rest → ⊥) }
+    ensures none { IfNone result
+        ((ns rest : List ℕ) → length ns ≡ length numbers.old → AreNumbersAt text.now ns rest → ⊥) }
 {
     let mut rest = text;
     for number in numbers.iter_mut() {

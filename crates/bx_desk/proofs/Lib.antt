@@ -5,3 +5,5 @@ pub mod MemoryCalls
 pub mod CallLaws
 pub mod Joined
 pub mod Saying
+pub mod Printing
+pub mod Endings

@@ -5,10 +5,10 @@ use Rattle.std.specs.Prelude.{if◌then◌else◌, string_bytes, option_map, opt
 use Rattle.std.specs.Option.{ForSome}
 use Rattle.std.specs.Str.{bytes_eq}
 use std.Path.{fun_ext}
-use Rattle.bx_desk.specs.Slots.{SlotState, nothing, with_slot, held, kept_place, started_slot, added_slot, room_of, room_left, with_added}
+use Rattle.bx_desk.specs.Slots.{SlotState, empty_slot, with_slot, file_slot, place_slot, started_slot, added_slot, room_of, room_left, with_added}
 use Rattle.bx_desk.specs.Shelves.{file_state, slot_state, slot_at, index_from, name_at}
-use Rattle.bx_desk.specs.declared.shelf.Slot.{Slot}
-use Rattle.bx_desk.specs.declared.shelf.Space.{Space}
+use Rattle.bx_desk.specs.declared.memory.shelf.Slot.{Slot}
+use Rattle.bx_desk.specs.declared.memory.shelf.Space.{Space}
 
 equal : (a b : List ℕ) → bytes_eq a b ≡ true → a ≡ b
 equal a b = (bytes_eq-Decides a b).0
@@ -83,17 +83,17 @@ set_slot change i name xs x y before e item named state same =
     ∙ ap (with_slot name change) same
 
 -- no slot has the name
-pub missing : (o : ℕ) (name : List ℕ) (xs : List Slot) → index_from o name xs ≡ None → slot_at xs name ≡ nothing
+pub missing : (o : ℕ) (name : List ℕ) (xs : List Slot) → index_from o name xs ≡ None → slot_at xs name ≡ empty_slot
 missing o name [] e = refl
 missing o name (x ∷ xs) e = by_test (bytes_eq (string_bytes x.name) name) e (λ later. missing (o + 1) name xs later) where
-  by_test : (t : Bool) → (if t then Some o else index_from (o + 1) name xs) ≡ None → (index_from (o + 1) name xs ≡ None → slot_at xs name ≡ nothing) → (if t then slot_state x else slot_at xs name) ≡ nothing
+  by_test : (t : Bool) → (if t then Some o else index_from (o + 1) name xs) ≡ None → (index_from (o + 1) name xs ≡ None → slot_at xs name ≡ empty_slot) → (if t then slot_state x else slot_at xs name) ≡ empty_slot
   by_test true e later = cc
   by_test false e later = later e
 
 -- an empty slot is added
-pub push_slot : (xs : List Slot) (y : Slot) → slot_state y ≡ nothing → slot_at (xs ++ y ∷ []) ≡ slot_at xs
+pub push_slot : (xs : List Slot) (y : Slot) → slot_state y ≡ empty_slot → slot_at (xs ++ y ∷ []) ≡ slot_at xs
 push_slot xs y empty = fun_ext (λ q. pushed xs q) where
-  last : (t : Bool) → (if t then slot_state y else nothing) ≡ nothing
+  last : (t : Bool) → (if t then slot_state y else empty_slot) ≡ empty_slot
   last true = empty
   last false = refl
 
@@ -153,21 +153,21 @@ add_found (Some name) bytes xs at x y e item named state = set_slot (added_slot 
 pub add_missing : (started : Option (List ℕ)) (bytes : List ℕ) (xs : List Slot) → None ≡ started_index started xs → slot_at xs ≡ with_added started bytes (slot_at xs)
 add_missing None bytes xs e = refl
 add_missing (Some name) bytes xs e = fun_ext (λ q. by_test q (bytes_eq name q) refl) where
-  none : (q : List ℕ) → name ≡ q → slot_at xs q ≡ nothing
-  none q same = subst (λ (n : List ℕ). slot_at xs n ≡ nothing) same (missing 0 name xs (sym e))
+  none : (q : List ℕ) → name ≡ q → slot_at xs q ≡ empty_slot
+  none q same = subst (λ (n : List ℕ). slot_at xs n ≡ empty_slot) same (missing 0 name xs (sym e))
 
   by_test : (q : List ℕ) (t : Bool) → bytes_eq name q ≡ t → slot_at xs q ≡ (if t then added_slot bytes (slot_at xs q) else slot_at xs q)
   by_test q false is = refl
-  by_test q true is = let n : slot_at xs q ≡ nothing = none q (equal name q is) in n ∙ sym (ap (added_slot bytes) n)
+  by_test q true is = let n : slot_at xs q ≡ empty_slot = none q (equal name q is) in n ∙ sym (ap (added_slot bytes) n)
 
 -- what is in a slot that was changed
-pub held_state : (x : Slot) (space : Space) (bytes : List ℕ) → space.bytes.items ≡ bytes → space.room ≡ 0 → slot_state (record { name = x.name; file = Some space; place = x.place }) ≡ held bytes (slot_state x)
+pub held_state : (x : Slot) (space : Space) (bytes : List ℕ) → space.bytes.items ≡ bytes → space.room ≡ 0 → slot_state (record { name = x.name; file = Some space; place = x.place }) ≡ file_slot bytes (slot_state x)
 held_state x space bytes held_bytes room =
     ap (λ (b : List ℕ). with_file b space.room) held_bytes ∙ ap (λ (r : ℕ). with_file bytes r) room where
       with_file : List ℕ → ℕ → SlotState
       with_file b r = record { file = Some (record { bytes = b; room = r }); place = (slot_state x).place }
 
-pub kept_state : (x : Slot) (space : Space) (size : ℕ) → space.room ≡ size → slot_state (record { name = x.name; file = x.file; place = Some space }) ≡ kept_place size (slot_state x)
+pub kept_state : (x : Slot) (space : Space) (size : ℕ) → space.room ≡ size → slot_state (record { name = x.name; file = x.file; place = Some space }) ≡ place_slot size (slot_state x)
 kept_state x space size room = ap (λ (r : ℕ). record (slot_state x) { place = Some r }) room
 
 pub added_state : (x : Slot) (old new : Space) (bytes : List ℕ) → x.file ≡ Some old → new.bytes.items ≡ old.bytes.items ++ bytes → new.room ≡ old.room - length bytes → slot_state (record { name = x.name; file = Some new; place = x.place }) ≡ added_slot bytes (slot_state x)

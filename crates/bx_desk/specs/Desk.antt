@@ -1,6 +1,6 @@
 -- What a desk shows: files by their names, which of them is started, what was said, and how often its calls
 -- have failed. And what a call leaves of that: each word says all that changed.
-use Rattle.std.specs.Prelude.{◌≡◌, ℕ, ◌+◌, ◌-◌, ◌^◌, ◌≤◌, min, Bool, List, [], length, ◌++◌, Option, option_map, IfSome, IsSome, Some, None, nat_lt, if◌then◌else◌, Result, Ok, Err, ⊤}
+use Rattle.std.specs.Prelude.{◌≡◌, ℕ, ◌+◌, ◌-◌, ◌^◌, ◌≤◌, min, Bool, true, IsTrue, List, [], length, ◌++◌, Option, option_map, IfSome, is_some, Some, None, nat_lt, if◌then◌else◌, Result, Ok, Err, ⊤}
 use Rattle.std.specs.Str.{bytes_eq}
 use Rattle.bx_desk.specs.declared.desk.LoadFault.{LoadFault}
 use Rattle.bx_desk.specs.declared.desk.LoadFault.TheVariants.{Failed, TooLong, NoMemory}
@@ -48,6 +48,10 @@ LoadAnswers before now answer (Err NoMemory) = ⊤
 LoadAnswers before now answer (Err Failed) = Rose before.load now.load
 LoadAnswers before now answer (Err TooLong) = answer ≡ Err TooLong
 LoadAnswers before now answer (Ok u) = answer ≡ Ok u
+
+-- where the desk tells its files, the answer to a load follows from the file of this name
+abbrev pub IsLoadAnswer : DeskState → DeskState → List ℕ → ℕ → Result (Unit {0}) LoadFault → Type 0
+IsLoadAnswer old new name limit result = IfSome old.files (λ files. LoadAnswers old.faults new.faults (load_answer limit (files name)) result)
 
 -- a load failed: its count rose, and nothing else changed
 pub record FailsToLoad (old new : DeskState) : Type 0 where
@@ -101,9 +105,12 @@ with_count Output count desk = record desk { faults = record desk.faults { say =
 with_count File count desk = record desk { faults = record desk.faults { write = count } }
 
 -- whether bytes can be put there: a file must be started
+abbrev pub can_put : Target → DeskState → Bool
+can_put Output desk = true
+can_put File desk = is_some desk.started
+
 abbrev pub CanPut : Target → DeskState → Type 0
-CanPut Output desk = ⊤
-CanPut File desk = IsSome desk.started
+CanPut target desk = IsTrue (can_put target desk)
 
 -- these bytes were put there, and nothing else changed
 abbrev pub Puts : Target → DeskState → DeskState → List ℕ → Type 0

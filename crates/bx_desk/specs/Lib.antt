@@ -7,3 +7,5 @@ pub mod Standard
 pub mod Slots
 pub mod Shelves
 pub mod Calls
+pub mod Words
+pub mod Printing

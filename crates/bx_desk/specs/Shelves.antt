@@ -2,9 +2,9 @@
 use Rattle.std.specs.Prelude.{ℕ, zero, suc, ◌+◌, List, [], ◌∷◌, Option, Some, None, option_map, string_bytes, if◌then◌else◌}
 use Rattle.std.specs.Str.{bytes_eq}
 use Rattle.bx_desk.specs.Slots.{FileState, SlotState}
-use Rattle.bx_desk.specs.declared.shelf.Space.{Space}
-use Rattle.bx_desk.specs.declared.shelf.Slot.{Slot}
-use Rattle.bx_desk.specs.declared.shelf.Shelf.{Shelf}
+use Rattle.bx_desk.specs.declared.memory.shelf.Space.{Space}
+use Rattle.bx_desk.specs.declared.memory.shelf.Slot.{Slot}
+use Rattle.bx_desk.specs.declared.memory.shelf.Shelf.{Shelf}
 
 abbrev pub file_state : Space → FileState
 file_state space = record { bytes = space.bytes.items; room = space.room }

@@ -12,8 +12,8 @@ pub record SlotState : Type 0 where
   pub place : Option ℕ
 
 -- a name that has nothing
-abbrev pub nothing : SlotState
-nothing = record { file = None; place = None }
+abbrev pub empty_slot : SlotState
+empty_slot = record { file = None; place = None }
 
 abbrev pub file_bytes : SlotState → Option (List ℕ)
 file_bytes slot = option_map (λ file. file.bytes) slot.file
@@ -28,12 +28,12 @@ abbrev pub with_slot : List ℕ → (SlotState → SlotState) → (List ℕ → 
 with_slot name change slots q = if bytes_eq name q then change (slots q) else slots q
 
 -- it holds these bytes
-abbrev pub held : List ℕ → SlotState → SlotState
-held bytes slot = record slot { file = Some (record { bytes = bytes; room = 0 }) }
+abbrev pub file_slot : List ℕ → SlotState → SlotState
+file_slot bytes slot = record slot { file = Some (record { bytes = bytes; room = 0 }) }
 
 -- it keeps a place of this size
-abbrev pub kept_place : ℕ → SlotState → SlotState
-kept_place size slot = record slot { place = Some size }
+abbrev pub place_slot : ℕ → SlotState → SlotState
+place_slot size slot = record slot { place = Some size }
 
 -- an empty file uses its place up
 abbrev pub started_slot : SlotState → SlotState

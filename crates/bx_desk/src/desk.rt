@@ -5,8 +5,8 @@
 //! Each kind of call has a count of its failures: `load`; `start` and `append`; `say`. It rises only
 //! in a call that answers `Failed`, and an answer that blames the desk comes only where it rose. So no
 //! body can blame a desk that did not fail, as long as the counts are below 2^64 - 1, where they stop.
-ghost use Rattle.std.specs.Prelude.{◌≡◌, ◌+◌, ◌≤◌, ◌↔◌, [], vec_len, IfSome, IsSome, IsTrue, OnOk, OnErr, IsErrOf};
-ghost use Rattle.bx_desk.specs.Desk.{DeskState, IsFile, BeginsFile, LoadAnswers, load_answer, FailsToLoad, Starts, FailsToStart, Writes, WritesFront, Says, SaysFront};
+ghost use Rattle.std.specs.Prelude.{◌≡◌, ◌+◌, ◌≤◌, ◌↔◌, [], vec_len, IsSome, IsTrue, OnOk, OnErr, IsErrOf};
+ghost use Rattle.bx_desk.specs.Desk.{DeskState, IsFile, BeginsFile, IsLoadAnswer, FailsToLoad, Starts, FailsToStart, Writes, WritesFront, Says, SaysFront};
 
 use std::error::Error;
 use std::fmt;
@@ -66,20 +66,23 @@ pub trait Desk {
 
         // `TooLong`: the file begins with what the vector has, which is a byte past the limit.
         ensures too_long { IsErrOf result LoadFault.TooLong → vec_len into.new ≡ limit + 1 }
-        ensures too_long_front { IsErrOf result LoadFault.TooLong → BeginsFile (state self.old).files name.now into.new.items }
+        ensures too_long_front { IsErrOf result LoadFault.TooLong
+            → BeginsFile (state self.old).files name.now into.new.items }
 
         // The answer follows from the file, unless memory was refused or the desk failed.
-        ensures answer { IfSome (state self.old).files (λ files.
-            LoadAnswers (state self.old).faults (state self.new).faults (load_answer limit (files name.now)) result) }
+        ensures answer { IsLoadAnswer (state self.old) (state self.new) name.now limit result }
 
         ensures failed_empty { IsErrOf result LoadFault.Failed → into.new.items ≡ [] }
         ensures no_memory_empty { IsErrOf result LoadFault.NoMemory → into.new.items ≡ [] }
 
         // Only `Failed` changes the desk, and then the count of failed loads alone.
-        ensures failed { IsErrOf result LoadFault.Failed → FailsToLoad (state self.old) (state self.new) }
+        ensures failed { IsErrOf result LoadFault.Failed
+            → FailsToLoad (state self.old) (state self.new) }
         ensures ok_stays { OnOk result (state self.new ≡ state self.old) }
-        ensures too_long_stays { IsErrOf result LoadFault.TooLong → state self.new ≡ state self.old }
-        ensures no_memory_stays { IsErrOf result LoadFault.NoMemory → state self.new ≡ state self.old };
+        ensures too_long_stays { IsErrOf result LoadFault.TooLong
+            → state self.new ≡ state self.old }
+        ensures no_memory_stays { IsErrOf result LoadFault.NoMemory
+            → state self.new ≡ state self.old };
 
     /// Starts a file: from now on it exists, is empty, and is the one that `append` writes to.
     ///

@@ -29,13 +29,13 @@ impl<R: Files> StdDesk<'_, R> {
 }
 
 impl MemDesk {
-    ghost use Rattle.bx_desk.specs.Memory.{shown};
+    ghost use Rattle.bx_desk.specs.Memory.{state_of};
 
     /// The counts of the desk in memory.
     pub fn faults(&self) -> Faults
-        ensures load { result.load ≡ (shown self.now).faults.load }
-        ensures write { result.write ≡ (shown self.now).faults.write }
-        ensures say { result.say ≡ (shown self.now).faults.say }
+        ensures load { result.load ≡ (state_of self.now).faults.load }
+        ensures write { result.write ≡ (state_of self.now).faults.write }
+        ensures say { result.say ≡ (state_of self.now).faults.say }
     {
         Faults {
             load: self.load_faults,

@@ -14,6 +14,8 @@ pub fn a_count_rises_up_to_the_end_of_its_type()
 /// one and holds the pieces that were appended, in order, of a failed `append` the front that it
 /// wrote. All other files are as they were.
 pub fn a_started_file_holds_its_pieces_in_order()
-    ensures { (old mid new : DeskState) (name : List ℕ) (calls : List Call) → Starts old mid name → LeaveAll calls mid new
-        → (new.files ≡ option_map (with_file name (written calls)) old.files) × IsFile new.files name (written calls) × (new.started ≡ mid.started) }
+    ensures { (old mid new : DeskState) (name : List ℕ) (calls : List Call)
+        → Starts old mid name → LeaveAll calls mid new
+        → (new.files ≡ option_map (with_file name (written calls)) old.files)
+        × IsFile new.files name (written calls) × (new.started ≡ mid.started) }
 {}

@@ -1,14 +1,16 @@
 //! Files, output and gates, as bestagon sees them. Everything above works over the trait `Desk`, so
-//! it is proved over any desk; `StdDesk` is the one real one, and `MemDesk` the one for tests.
+//! it is proved over any desk; `StdDesk` is the one real one. A text goes through a `Piece`, which gathers
+//! it, and a `Printer`, which puts words and lines into the piece. The desk for tests and worked examples
+//! is in the module `memory`.
 #![tactic(auto)]
 
 mod desk;
 pub mod faults;
 mod gate;
 pub mod laws;
-mod memory;
+pub mod memory;
 mod piece;
-mod shelf;
+mod printer;
 mod standard;
 mod target;
 
@@ -16,4 +18,5 @@ pub use desk::{Desk, Failed, LoadFault};
 pub use gate::{Gate, OpenGate};
 pub use memory::MemDesk;
 pub use piece::Piece;
+pub use printer::{Printer, Word};
 pub use standard::StdDesk;

@@ -1,14 +1,18 @@
-//! A desk in memory, for tests: it tells its files and what was said. It fails just where it was told
-//! to, where no file has the name, where a started name has no place, and where the room is too small.
-//! The memory for what is written and said is taken beforehand, so that writing and saying take none.
-ghost use Rattle.std.specs.Prelude.{◌≡◌, ◌+◌, ◌≤◌, ◌↔◌, ◌++◌, [], ◌∷◌, ℕ, List, length, vec_len, IfSome, IsSome, OnOk, OnErr, IsErr, IsErrOf, IsTrue, Some, None, Option, option_map, is_some, nat_lt, ◌||◌, if◌then◌else◌};
+//! A desk in memory, for tests and worked examples; no program that is shipped has one. It tells its files
+//! and what was said. It fails just where it was told to, where no file has the name, where a started name
+//! has no place, and where the room is too small. The memory for what is written and said is taken
+//! beforehand, so that writing and saying take none. Its files are kept on a shelf, in the module of that
+//! name.
+ghost use Rattle.std.specs.Prelude.{◌≡◌, ◌+◌, ◌≤◌, ◌↔◌, ◌++◌, [], ◌∷◌, ℕ, List, length, vec_len, IsSome, OnOk, OnErr, IsErr, IsErrOf, IsTrue, Some, None, Option, option_map, is_some, nat_lt, ◌||◌, if◌then◌else◌};
 ghost use Rattle.bx_desk.specs.Shelves.{slots_of};
 ghost use Rattle.bx_desk.specs.Plans.{kept_at, kept_of};
 ghost use Rattle.bx_desk.specs.Loads.{LoadsFile};
-ghost use Rattle.bx_desk.specs.Slots.{with_slot, held, kept_place, file_bytes, nothing};
-ghost use Rattle.bx_desk.specs.Desk.{IsFile, BeginsFile, LoadAnswers, load_answer, FailsToLoad, Starts, FailsToStart, Writes, WritesFront, Says, SaysFront};
+ghost use Rattle.bx_desk.specs.Slots.{with_slot, file_slot, place_slot, file_bytes, empty_slot};
+ghost use Rattle.bx_desk.specs.Desk.{IsFile, BeginsFile, IsLoadAnswer, FailsToLoad, Starts, FailsToStart, Writes, WritesFront, Says, SaysFront};
 
-use crate::shelf::{Shelf, Space};
+mod shelf;
+
+use self::shelf::{Shelf, Space};
 use crate::{Desk, Failed, LoadFault};
 use bx_logic::NoMemory;
 use std::alloc::Global;
@@ -27,17 +31,18 @@ pub struct MemDesk {
 }
 
 impl MemDesk {
-    ghost use Rattle.bx_desk.specs.Memory.{shown, counted, next_kept};
+    ghost use Rattle.bx_desk.specs.Memory.{state_of, next_kept, after_put, after_make_room, after_fail_at, after_say_room};
+    ghost use Rattle.bx_desk.specs.Memory.{after_call, after_load_fault, after_write_fault, after_start_fault, after_say_fault};
 
     /// A desk with no file, nothing said, no call that is to fail, and no place and room. Takes no memory.
     pub fn new(alloc: Global) -> Self
-        ensures slots { (name : List ℕ) → (shown result).slots name ≡ nothing }
-        ensures started { (shown result).started ≡ None }
-        ensures said { (shown result).said ≡ [] }
-        ensures room { (shown result).room ≡ 0 }
-        ensures fails { (shown result).fails ≡ [] }
-        ensures calls { (shown result).calls ≡ 0 }
-        ensures faults { (shown result).faults ≡ record { load = 0; write = 0; say = 0 } }
+        ensures slots { (name : List ℕ) → (state_of result).slots name ≡ empty_slot }
+        ensures started { (state_of result).started ≡ None }
+        ensures said { (state_of result).said ≡ [] }
+        ensures room { (state_of result).room ≡ 0 }
+        ensures fails { (state_of result).fails ≡ [] }
+        ensures calls { (state_of result).calls ≡ 0 }
+        ensures faults { (state_of result).faults ≡ record { load = 0; write = 0; say = 0 } }
     {
         MemDesk {
             alloc,
@@ -58,8 +63,9 @@ impl MemDesk {
     ///
     /// `NoMemory` where memory was refused: then nothing has changed.
     pub fn put(&mut self, name: &str, bytes: &[u8]) -> Result<(), NoMemory>
-        ensures ok { OnOk result (shown self.new ≡ record (shown self.old) { slots = with_slot name.now (held bytes.now) (shown self.old).slots }) }
-        ensures err { OnErr result (shown self.new ≡ shown self.old) }
+        ensures ok { OnOk result
+            (state_of self.new ≡ after_put (state_of self.old) name.now bytes.now) }
+        ensures err { OnErr result (state_of self.new ≡ state_of self.old) }
     {
         self.shelf.put(name, bytes)
     }
@@ -71,8 +77,9 @@ impl MemDesk {
     ///
     /// `NoMemory` where memory was refused: then nothing has changed.
     pub fn make_room(&mut self, name: &str, bytes: u64) -> Result<(), NoMemory>
-        ensures ok { OnOk result (shown self.new ≡ record (shown self.old) { slots = with_slot name.now (kept_place bytes) (shown self.old).slots }) }
-        ensures err { OnErr result (shown self.new ≡ shown self.old) }
+        ensures ok { OnOk result
+            (state_of self.new ≡ after_make_room (state_of self.old) name.now bytes) }
+        ensures err { OnErr result (state_of self.new ≡ state_of self.old) }
     {
         self.shelf.keep_place(name, bytes)
     }
@@ -85,8 +92,8 @@ impl MemDesk {
     ///
     /// `NoMemory` where memory was refused: then nothing has changed.
     pub fn fail_at(&mut self, call: u64, kept: u64) -> Result<(), NoMemory>
-        ensures ok { OnOk result (shown self.new ≡ record (shown self.old) { fails = (shown self.old).fails ++ (call, kept) ∷ [] }) }
-        ensures err { OnErr result (shown self.new ≡ shown self.old) }
+        ensures ok { OnOk result (state_of self.new ≡ after_fail_at (state_of self.old) call kept) }
+        ensures err { OnErr result (state_of self.new ≡ state_of self.old) }
     {
         self.fails.push((call, kept))?;
         Ok(())
@@ -94,14 +101,15 @@ impl MemDesk {
 
     /// The bytes of a file; `None` exactly where no file has this name.
     pub fn file(&self, name: &str) -> Option<&[u8]>
-        ensures { option_map (λ file. file.now) result ≡ file_bytes ((shown self.now).slots name.now) }
+        ensures { option_map (λ file. file.now) result
+            ≡ file_bytes ((state_of self.now).slots name.now) }
     {
         self.shelf.file(name)
     }
 
     /// The bytes said so far.
     pub fn said(&self) -> &[u8]
-        ensures { result.now ≡ (shown self.now).said }
+        ensures { result.now ≡ (state_of self.now).said }
     {
         self.said.bytes()
     }
@@ -113,16 +121,16 @@ impl MemDesk {
     /// `NoMemory` where memory was refused, or where the room would pass `u64::MAX`: then nothing
     /// has changed.
     pub fn say_room(&mut self, bytes: u64) -> Result<(), NoMemory>
-        ensures ok { OnOk result (shown self.new ≡ record (shown self.old) { room = (shown self.old).room + bytes }) }
-        ensures err { OnErr result (shown self.new ≡ shown self.old) }
+        ensures ok { OnOk result (state_of self.new ≡ after_say_room (state_of self.old) bytes) }
+        ensures err { OnErr result (state_of self.new ≡ state_of self.old) }
     {
         self.said.make_room(bytes)
     }
 
     // Counts a call, and tells how much it keeps where it is to fail.
     fn next_call(&mut self) -> Option<u64>
-        ensures kept { result ≡ next_kept (shown self.old) }
-        ensures calls { shown self.new ≡ record (shown self.old) { calls = counted (shown self.old).calls } }
+        ensures kept { result ≡ next_kept (state_of self.old) }
+        ensures calls { state_of self.new ≡ after_call (state_of self.old) }
     {
         self.calls = self.calls.saturating_add(1);
         planned(&self.fails, self.calls)
@@ -130,24 +138,24 @@ impl MemDesk {
 
     // A load failed: its count rises.
     fn fault_load(&mut self)
-        ensures faults { shown self.new ≡ record (shown self.old) { faults = record (shown self.old).faults { load = counted (shown self.old).faults.load } } }
-        ensures no_fall { (shown self.old).faults.load ≤ (shown self.new).faults.load }
+        ensures faults { state_of self.new ≡ after_load_fault (state_of self.old) }
+        ensures no_fall { (state_of self.old).faults.load ≤ (state_of self.new).faults.load }
     {
         self.load_faults = self.load_faults.saturating_add(1);
     }
 
     // A call of start or append failed: their count rises.
     fn fault_write(&mut self)
-        ensures faults { shown self.new ≡ record (shown self.old) { faults = record (shown self.old).faults { write = counted (shown self.old).faults.write } } }
-        ensures no_fall { (shown self.old).faults.write ≤ (shown self.new).faults.write }
+        ensures faults { state_of self.new ≡ after_write_fault (state_of self.old) }
+        ensures no_fall { (state_of self.old).faults.write ≤ (state_of self.new).faults.write }
     {
         self.write_faults = self.write_faults.saturating_add(1);
     }
 
     // A start failed: no file is started.
     fn fail_start(&mut self)
-        ensures after { shown self.new ≡ record (shown self.old) { started = None; faults = record (shown self.old).faults { write = counted (shown self.old).faults.write } } }
-        ensures no_fall { (shown self.old).faults.write ≤ (shown self.new).faults.write }
+        ensures after { state_of self.new ≡ after_start_fault (state_of self.old) }
+        ensures no_fall { (state_of self.old).faults.write ≤ (state_of self.new).faults.write }
     {
         self.shelf.stop();
         self.fault_write();
@@ -155,43 +163,47 @@ impl MemDesk {
 
     // A call of say failed: its count rises.
     fn fault_say(&mut self)
-        ensures faults { shown self.new ≡ record (shown self.old) { faults = record (shown self.old).faults { say = counted (shown self.old).faults.say } } }
-        ensures no_fall { (shown self.old).faults.say ≤ (shown self.new).faults.say }
+        ensures faults { state_of self.new ≡ after_say_fault (state_of self.old) }
+        ensures no_fall { (state_of self.old).faults.say ≤ (state_of self.new).faults.say }
     {
         self.say_faults = self.say_faults.saturating_add(1);
     }
 }
 
 impl Desk for MemDesk {
-    ghost use Rattle.bx_desk.specs.Memory.{shown, seen, cannot_load, cannot_start, cannot_append, cannot_say, after_load, after_start, after_append, after_say};
+    ghost use Rattle.bx_desk.specs.Memory.{state_of, view_of, cannot_load, cannot_start, cannot_append, cannot_say, after_load, after_start, after_append, after_say};
 
-    ghost state = { λ d. seen (shown d) };
+    ghost state = { λ d. view_of d };
 
     fn load(&mut self, name: &str, limit: u64, into: &mut Vec<u8>) -> Result<(), LoadFault>
         requires { into.old.items ≡ [] }
 
-        ensures whole { OnOk result (IsFile (seen (shown self.old)).files name.now into.new.items) }
+        ensures whole { OnOk result (IsFile (view_of self.old).files name.now into.new.items) }
         ensures within { OnOk result (vec_len into.new ≤ limit) }
 
         // `TooLong`: the file begins with what the vector has, which is a byte past the limit.
         ensures too_long { IsErrOf result LoadFault.TooLong → vec_len into.new ≡ limit + 1 }
-        ensures too_long_front { IsErrOf result LoadFault.TooLong → BeginsFile (seen (shown self.old)).files name.now into.new.items }
+        ensures too_long_front { IsErrOf result LoadFault.TooLong
+            → BeginsFile (view_of self.old).files name.now into.new.items }
 
         // The answer follows from the file, unless memory was refused or the desk failed.
-        ensures answer { IfSome (seen (shown self.old)).files (λ files.
-            LoadAnswers (seen (shown self.old)).faults (seen (shown self.new)).faults (load_answer limit (files name.now)) result) }
+        ensures answer { IsLoadAnswer (view_of self.old) (view_of self.new) name.now limit result }
 
         ensures failed_empty { IsErrOf result LoadFault.Failed → into.new.items ≡ [] }
         ensures no_memory_empty { IsErrOf result LoadFault.NoMemory → into.new.items ≡ [] }
 
         // Only `Failed` changes the desk, and then the count of failed loads alone.
-        ensures failed { IsErrOf result LoadFault.Failed → FailsToLoad (seen (shown self.old)) (seen (shown self.new)) }
-        ensures ok_stays { OnOk result (seen (shown self.new) ≡ seen (shown self.old)) }
-        ensures too_long_stays { IsErrOf result LoadFault.TooLong → seen (shown self.new) ≡ seen (shown self.old) }
-        ensures no_memory_stays { IsErrOf result LoadFault.NoMemory → seen (shown self.new) ≡ seen (shown self.old) }
+        ensures failed { IsErrOf result LoadFault.Failed
+            → FailsToLoad (view_of self.old) (view_of self.new) }
+        ensures ok_stays { OnOk result (view_of self.new ≡ view_of self.old) }
+        ensures too_long_stays { IsErrOf result LoadFault.TooLong
+            → view_of self.new ≡ view_of self.old }
+        ensures no_memory_stays { IsErrOf result LoadFault.NoMemory
+            → view_of self.new ≡ view_of self.old }
         // It fails just where it was told to, and where there is no such file.
-        ensures fails_exactly { IsErrOf result LoadFault.Failed ↔ IsTrue (cannot_load (shown self.old) name.now) }
-        ensures after { shown self.new ≡ after_load (shown self.old) name.now }
+        ensures fails_exactly { IsErrOf result LoadFault.Failed
+            ↔ IsTrue (cannot_load (state_of self.old) name.now) }
+        ensures after { state_of self.new ≡ after_load (state_of self.old) name.now }
     {
         let plan = self.next_call();
         match readable(&self.shelf, plan, name) {
@@ -204,11 +216,11 @@ impl Desk for MemDesk {
     }
 
     fn start(&mut self, name: &str) -> Result<(), Failed>
-        ensures ok { OnOk result (Starts (seen (shown self.old)) (seen (shown self.new)) name.now) }
-        ensures err { OnErr result (FailsToStart (seen (shown self.old)) (seen (shown self.new)) name.now) }
+        ensures ok { OnOk result (Starts (view_of self.old) (view_of self.new) name.now) }
+        ensures err { OnErr result (FailsToStart (view_of self.old) (view_of self.new) name.now) }
         // It fails just where it was told to, and where the name has no place.
-        ensures fails_exactly { IsErr result ↔ IsTrue (cannot_start (shown self.old) name.now) }
-        ensures after { shown self.new ≡ after_start (shown self.old) name.now }
+        ensures fails_exactly { IsErr result ↔ IsTrue (cannot_start (state_of self.old) name.now) }
+        ensures after { state_of self.new ≡ after_start (state_of self.old) name.now }
     {
         if self.next_call().is_some() {
             self.fail_start();
@@ -226,12 +238,13 @@ impl Desk for MemDesk {
     }
 
     fn append(&mut self, piece: &[u8]) -> Result<(), Failed>
-        requires { IsSome (seen (shown self.old)).started }
-        ensures ok { OnOk result (Writes (seen (shown self.old)) (seen (shown self.new)) piece.now) }
-        ensures err { OnErr result (WritesFront (seen (shown self.old)) (seen (shown self.new)) piece.now) }
+        requires { IsSome (view_of self.old).started }
+        ensures ok { OnOk result (Writes (view_of self.old) (view_of self.new) piece.now) }
+        ensures err { OnErr result (WritesFront (view_of self.old) (view_of self.new) piece.now) }
         // It fails just where it was told to, and where there is no room for all of the piece.
-        ensures fails_exactly { IsErr result ↔ IsTrue (cannot_append (shown self.old) piece.now) }
-        ensures after { shown self.new ≡ after_append (shown self.old) piece.now }
+        ensures fails_exactly { IsErr result
+            ↔ IsTrue (cannot_append (state_of self.old) piece.now) }
+        ensures after { state_of self.new ≡ after_append (state_of self.old) piece.now }
     {
         let plan = self.next_call();
         let room = self.shelf.room();
@@ -244,11 +257,11 @@ impl Desk for MemDesk {
     }
 
     fn say(&mut self, piece: &[u8]) -> Result<(), Failed>
-        ensures ok { OnOk result (Says (seen (shown self.old)) (seen (shown self.new)) piece.now) }
-        ensures err { OnErr result (SaysFront (seen (shown self.old)) (seen (shown self.new)) piece.now) }
+        ensures ok { OnOk result (Says (view_of self.old) (view_of self.new) piece.now) }
+        ensures err { OnErr result (SaysFront (view_of self.old) (view_of self.new) piece.now) }
         // It fails just where it was told to, and where there is no room for all of the piece.
-        ensures fails_exactly { IsErr result ↔ IsTrue (cannot_say (shown self.old) piece.now) }
-        ensures after { shown self.new ≡ after_say (shown self.old) piece.now }
+        ensures fails_exactly { IsErr result ↔ IsTrue (cannot_say (state_of self.old) piece.now) }
+        ensures after { state_of self.new ≡ after_say (state_of self.old) piece.now }
     {
         let plan = self.next_call();
         let room = self.said.room();
@@ -275,7 +288,8 @@ fn planned(plans: &[(u64, u64)], number: u64) -> Option<u64>
 
 // The file of this name, but for a call that is to fail.
 fn readable<'a>(shelf: &'a Shelf, plan: Option<u64>, name: &str) -> Option<&'a [u8]>
-    ensures { option_map (λ file. file.now) result ≡ (if is_some plan then None else file_bytes (slots_of shelf.now name.now)) }
+    ensures { option_map (λ file. file.now) result
+        ≡ (if is_some plan then None else file_bytes (slots_of shelf.now name.now)) }
 {
     if plan.is_some() {
         return None;

@@ -56,8 +56,10 @@ impl Piece {
     /// `Failed` where the desk could not take all of a full buffer.
     pub fn put<D: Desk>(&mut self, bytes: &[u8], desk: &mut D) -> Result<(), Failed>
         requires { CanPut (target_of self.old) (D.state desk.old) }
-        ensures hands_on { HandsOn result (target_of self.old) (D.state desk.old) (D.state desk.new) (pending self.old ++ bytes.now) (pending self.new) }
-        ensures whole_buffers { OnOk result (length (pending self.new) ≡ (length (pending self.old) + length bytes.now) % 4096) }
+        ensures hands_on { HandsOn result (target_of self.old) (D.state desk.old) (D.state desk.new)
+            (pending self.old ++ bytes.now) (pending self.new) }
+        ensures whole_buffers { OnOk result
+            (length (pending self.new) ≡ (length (pending self.old) + length bytes.now) % 4096) }
         // Without a full buffer the desk isn't called.
         ensures quiet { length (pending self.old) + length bytes.now < 4096 → desk.new ≡ desk.old }
         ensures target_stays { target_of self.new ≡ target_of self.old }
@@ -84,9 +86,12 @@ impl Piece {
     /// Those of `put`.
     pub fn put_number<D: Desk>(&mut self, n: u64, desk: &mut D) -> Result<(), Failed>
         requires { CanPut (target_of self.old) (D.state desk.old) }
-        ensures hands_on { HandsOn result (target_of self.old) (D.state desk.old) (D.state desk.new) (pending self.old ++ decimal n) (pending self.new) }
-        ensures whole_buffers { OnOk result (length (pending self.new) ≡ (length (pending self.old) + length (decimal n)) % 4096) }
-        ensures quiet { length (pending self.old) + length (decimal n) < 4096 → desk.new ≡ desk.old }
+        ensures hands_on { HandsOn result (target_of self.old) (D.state desk.old) (D.state desk.new)
+            (pending self.old ++ decimal n) (pending self.new) }
+        ensures whole_buffers { OnOk result
+            (length (pending self.new) ≡ (length (pending self.old) + length (decimal n)) % 4096) }
+        ensures quiet { length (pending self.old) + length (decimal n) < 4096
+            → desk.new ≡ desk.old }
         ensures target_stays { target_of self.new ≡ target_of self.old }
         ensures can { CanPut (target_of self.new) (D.state desk.new) }
     {
@@ -101,7 +106,8 @@ impl Piece {
     /// `Failed` where the desk could not take all of it.
     pub fn end<D: Desk>(&mut self, desk: &mut D) -> Result<(), Failed>
         requires { CanPut (target_of self.old) (D.state desk.old) }
-        ensures hands_on { HandsOn result (target_of self.old) (D.state desk.old) (D.state desk.new) (pending self.old) [] }
+        ensures hands_on { HandsOn result (target_of self.old) (D.state desk.old) (D.state desk.new)
+            (pending self.old) [] }
         ensures empty { OnOk result (pending self.new ≡ []) }
         // With nothing pending the desk isn't called.
         ensures quiet { pending self.old ≡ [] → desk.new ≡ desk.old }

@@ -1,10 +1,10 @@
-//! The real desk: files of the system and standard output. Its loops over `read` and `write` are
-//! proved over any reader and writer. No clause can say what a real file or terminal holds, so this
-//! desk tells neither its files nor what was said: that it opens the named file and writes to
-//! standard output is left to tests.
-ghost use Rattle.std.specs.Prelude.{◌≡◌, ◌+◌, ◌<◌, ◌≤◌, ◌++◌, [], ℕ, List, length, vec_len, IfSome, OnOk, OnErr, IsErrOf, Option, None};
+//! The real desk: files of the system and standard output. What it does once the system has answered
+//! is proved over any reader and writer. No clause can say what a real file or terminal holds, so this
+//! desk tells neither its files nor what was said: that it asks for the named file and for standard
+//! output is left to tests.
+ghost use Rattle.std.specs.Prelude.{◌≡◌, ◌+◌, ◌-◌, ◌^◌, ◌≤◌, [], min, false, vec_len, IfOk, OnOk, OnErr, IsOk, IsErr, IsErrOf, IsTrue, Some, None};
 ghost use Rattle.std.specs.Io.KnownBytes.{Appends};
-ghost use Rattle.bx_desk.specs.Standard.{AppendsFront};
+ghost use Rattle.bx_desk.specs.Standard.{AppendsFront, IsWhole, IsFront};
 
 use crate::{Desk, Failed, LoadFault};
 use std::fs;
@@ -53,23 +53,16 @@ impl<R: Files + Print> Desk for StdDesk<'_, R> {
     } };
 
     fn load(&mut self, name: &str, limit: u64, into: &mut Vec<u8>) -> Result<(), LoadFault> {
-        let result = match fs::open(self.rt, name) {
-            Ok(mut file) => read_within(&mut file, limit, into),
-            Err(_) => Err(LoadFault::Failed),
-        };
-        if let Err(LoadFault::Failed) = result {
-            self.load_faults = self.load_faults.saturating_add(1);
-        }
-        result
+        let answer = read_opened(fs::open(self.rt, name), limit, into);
+        let has_failed = matches!(answer, Err(LoadFault::Failed));
+        tally(has_failed, &mut self.load_faults);
+        answer
     }
 
     fn start(&mut self, name: &str) -> Result<(), Failed> {
-        self.started = fs::create(self.rt, name).ok();
-        if self.started.is_none() {
-            self.write_faults = self.write_faults.saturating_add(1);
-            return Err(Failed);
-        }
-        Ok(())
+        let answer = keep_made(&mut self.started, fs::create(self.rt, name));
+        tally(answer.is_err(), &mut self.write_faults);
+        answer
     }
 
     fn has_started(&self) -> bool {
@@ -77,33 +70,82 @@ impl<R: Files + Print> Desk for StdDesk<'_, R> {
     }
 
     fn append(&mut self, piece: &[u8]) -> Result<(), Failed> {
-        let result = match &mut self.started {
+        let answer = match &mut self.started {
             Some(file) => write_whole(file, piece),
             None => unreachable!(),
         };
-        if result.is_err() {
-            self.write_faults = self.write_faults.saturating_add(1);
-        }
-        result
+        tally(answer.is_err(), &mut self.write_faults);
+        answer
     }
 
     fn say(&mut self, piece: &[u8]) -> Result<(), Failed> {
-        let result = write_whole(&mut io::writer(self.rt), piece);
-        if result.is_err() {
-            self.say_faults = self.say_faults.saturating_add(1);
+        let answer = write_whole(&mut io::writer(self.rt), piece);
+        tally(answer.is_err(), &mut self.say_faults);
+        answer
+    }
+}
+
+// Counts a call that failed. At the end of its type the count stays.
+fn tally(has_failed: bool, count: &mut u64)
+    ensures failed { IsTrue has_failed → count.new ≡ min (count.old + 1) (2 ^ 64 - 1) }
+    ensures ok { has_failed ≡ false → count.new ≡ count.old }
+    ensures no_fall { count.old ≤ count.new }
+{
+    if has_failed {
+        *count = count.saturating_add(1);
+    }
+}
+
+// What a start comes to, where the system answered so: the file that it made is the started one.
+fn keep_made<F: Drop>(started: &mut Option<F>, made: io::Result<F>) -> Result<(), Failed>
+    ensures made { IfOk made (λ file. started.new ≡ Some file) }
+    ensures ok { IfOk made (λ _. IsOk result) }
+    ensures none_made { OnErr made (started.new ≡ None) }
+    ensures err { OnErr made (IsErr result) }
+{
+    match made {
+        Ok(file) => {
+            *started = Some(file);
+            Ok(())
         }
-        result
+        Err(_) => {
+            *started = None;
+            Err(Failed)
+        }
+    }
+}
+
+// What a load comes to, where the system answered so: what reading says of a file that was opened, and
+// `Failed` where none was.
+fn read_opened<F: Read + Drop>(
+    opened: io::Result<F>,
+    limit: u64,
+    into: &mut Vec<u8>,
+) -> Result<(), LoadFault>
+    requires { into.old.items ≡ [] }
+    ensures not_opened { OnErr opened (IsErrOf result LoadFault.Failed) }
+    ensures whole { OnOk result (IfOk opened (λ file. IsWhole (F.remaining file) into.new.items)) }
+    ensures within { OnOk result (vec_len into.new ≤ limit) }
+    ensures too_long { IsErrOf result LoadFault.TooLong → vec_len into.new ≡ limit + 1 }
+    ensures front { IsErrOf result LoadFault.TooLong
+        → IfOk opened (λ file. IsFront (F.remaining file) into.new.items) }
+    ensures failed_empty { IsErrOf result LoadFault.Failed → into.new.items ≡ [] }
+    ensures no_memory_empty { IsErrOf result LoadFault.NoMemory → into.new.items ≡ [] }
+{
+    match opened {
+        Ok(mut file) => read_within(&mut file, limit, into),
+        Err(_) => Err(LoadFault::Failed),
     }
 }
 
 // Reads into an empty vector, to the end or to the first byte past the limit.
 fn read_within<F: Read>(file: &mut F, limit: u64, into: &mut Vec<u8>) -> Result<(), LoadFault>
     requires { into.old.items ≡ [] }
-    ensures whole { OnOk result (IfSome (F.remaining file.old) (λ bytes. into.new.items ≡ bytes)) }
+    ensures whole { OnOk result (IsWhole (F.remaining file.old) into.new.items) }
     ensures within { OnOk result (vec_len into.new ≤ limit) }
     ensures too_long { IsErrOf result LoadFault.TooLong → vec_len into.new ≡ limit + 1 }
     ensures front { IsErrOf result LoadFault.TooLong
-        → IfSome (F.remaining file.old) (λ bytes. (rest : List ℕ) × (bytes ≡ into.new.items ++ rest)) }
+        → IsFront (F.remaining file.old) into.new.items }
     ensures failed_empty { IsErrOf result LoadFault.Failed → into.new.items ≡ [] }
     ensures no_memory_empty { IsErrOf result LoadFault.NoMemory → into.new.items ≡ [] }
 {
@@ -128,7 +170,8 @@ fn read_within<F: Read>(file: &mut F, limit: u64, into: &mut Vec<u8>) -> Result<
 // Writes all of the bytes, or after a failure a front of them. A writer that takes none has failed.
 fn write_whole<W: Write>(out: &mut W, bytes: &[u8]) -> Result<(), Failed>
     ensures whole { OnOk result (Appends (W.contents out.old) (W.contents out.new) bytes.now) }
-    ensures front { OnErr result (AppendsFront (W.contents out.old) (W.contents out.new) bytes.now) }
+    ensures front { OnErr result
+        (AppendsFront (W.contents out.old) (W.contents out.new) bytes.now) }
 {
     let mut rest = bytes;
     while !rest.is_empty() {

@@ -2,3 +2,4 @@ pub mod FirstLines
 pub mod BadLines
 pub mod Numbers
 pub mod Stuck
+pub mod Above

@@ -6,8 +6,10 @@ ghost use Rattle.bx_lines.specs.Decimals.{IsNumberAt};
 /// to the number. None where no number of at most `limit` stands there.
 pub fn number_at(bytes: &[u8], limit: u64) -> Option<(u64, &[u8])>
     requires { limit < 2 ^ 32 }
-    ensures found { IfSome result (λ found. (found.0 ≤ limit) × IsNumberAt bytes.now found.0 found.1.now) }
-    ensures none { IfNone result ((n : ℕ) (rest : List ℕ) → n ≤ limit → IsNumberAt bytes.now n rest → ⊥) }
+    ensures found { IfSome result
+        (λ found. (found.0 ≤ limit) × IsNumberAt bytes.now found.0 found.1.now) }
+    ensures none { IfNone result
+        ((n : ℕ) (rest : List ℕ) → n ≤ limit → IsNumberAt bytes.now n rest → ⊥) }
 {
     let (first, mut rest) = bytes.split_first()?;
     if !first.is_ascii_digit() {

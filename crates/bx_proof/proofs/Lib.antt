@@ -4,4 +4,3 @@ pub mod Numbers
 pub mod StepLines
 pub mod LogGrammar
 pub mod OneLog
-pub mod Putting

@@ -12,7 +12,7 @@ use Rattle.bx_lines.specs.Decimals.{IsNumberAt}
 use Rattle.bx_lines.proofs.BadLines.{stuck_at}
 use Rattle.bx_lines.proofs.Numbers.{one_number}
 use Rattle.bx_proof.specs.Steps.{Step, IsStep, AreSteps}
-use Rattle.bx_proof.specs.Texts.{closed, step_line, step_lines, IsLogText}
+use Rattle.bx_proof.specs.Texts.{list_text, step_line, step_lines, IsLogText}
 use Rattle.bx_proof.specs.Readings.{IsStepAt}
 use Rattle.bx_proof.proofs.StepLines.{number_of_line, step_line_is_line, length-step_lines}
 
@@ -42,7 +42,7 @@ log_grammar = record { start = None; goes = GoesTo; ends = Ends }
 one_id : (line : List ℕ) (a b : Option ℕ) (from : Option ℕ) → GoesTo from line a → GoesTo from line b → a ≡ b
 one_id line a b from x y =
     let number = λ (g_id : ℕ) (g_step : Step) (e : line ≡ step_line g_id g_step). number_of_line line g_id g_step [] (e ∙ sym (append-nil (step_line g_id g_step))) in
-    let same = one_number line x.id y.id (closed literal_text x.step.literals ++ (closed decimal x.step.hints ++ [])) (closed literal_text y.step.literals ++ (closed decimal y.step.hints ++ [])) (omega (arith, x.is.numbered)) (omega (arith, y.is.numbered)) (number x.id x.step x.spelled) (number y.id y.step y.spelled) in
+    let same = one_number line x.id y.id (list_text literal_text x.step.literals ++ (list_text decimal x.step.hints ++ [])) (list_text literal_text y.step.literals ++ (list_text decimal y.step.hints ++ [])) (omega (arith, x.is.numbered)) (omega (arith, y.is.numbered)) (number x.id x.step x.spelled) (number y.id y.step y.spelled) in
     x.reached ∙ ap Some same.0 ∙ sym y.reached
 
 -- some step, of the least id that a step may have

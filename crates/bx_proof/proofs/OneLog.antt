@@ -7,7 +7,7 @@ use Rattle.bx_lines.proofs.BadLines.{one_bad_line, no_bad_line}
 use Rattle.bx_proof.specs.declared.fault.StepFault.{StepFault}
 use Rattle.bx_proof.specs.declared.fault.StepFault.TheVariants.{BadStep, NoMemory}
 use Rattle.bx_proof.specs.Steps.{Step, StepList, IsStep, AreSteps}
-use Rattle.bx_proof.specs.Texts.{closed, step_line, step_lines, IsTextOf, IsLogText, Reads}
+use Rattle.bx_proof.specs.Texts.{list_text, step_line, step_lines, IsTextOf, IsLogText, Reads}
 use Rattle.bx_proof.specs.Readings.{IsStepAt}
 use Rattle.bx_proof.proofs.Closed.{closed_stops}
 use Rattle.bx_proof.proofs.StepLines.{step_of, number_of_line, step_literals, step_hints, follow_number, follow_literals, follow_hints}
@@ -15,9 +15,9 @@ use Rattle.bx_proof.proofs.StepLines.{step_of, number_of_line, step_literals, st
 -- the line of one step stands at the front of bytes
 one_step : (bytes r r' : List ℕ) (id id' : ℕ) (s t : Step) → IsStepAt bytes id s r → IsStepAt bytes id' t r' → (id' ≡ id) × (t ≡ s) × (r' ≡ r)
 one_step bytes r r' id id' s t a b =
-    let rest = closed decimal t.hints ++ 10 ∷ r' in
-    let (same, literals_at) = follow_number bytes id id' s r (closed literal_text t.literals ++ rest) (omega (arith, b.step.numbered)) a (number_of_line bytes id' t (10 ∷ r') b.spelled) in
-    let (literals, hints_at) = follow_literals id s r (closed literal_text t.literals ++ rest) rest t.literals a.step literals_at (step_literals id' t b.step) (record { spelled = refl; stops = closed_stops decimal t.hints (10 ∷ r') }) in
+    let rest = list_text decimal t.hints ++ 10 ∷ r' in
+    let (same, literals_at) = follow_number bytes id id' s r (list_text literal_text t.literals ++ rest) (omega (arith, b.step.numbered)) a (number_of_line bytes id' t (10 ∷ r') b.spelled) in
+    let (literals, hints_at) = follow_literals id s r (list_text literal_text t.literals ++ rest) rest t.literals a.step literals_at (step_literals id' t b.step) (record { spelled = refl; stops = closed_stops decimal t.hints (10 ∷ r') }) in
     let (hints, end) = follow_hints id s r rest (10 ∷ r') t.hints a.step hints_at (step_hints id' t b.step) (record { spelled = refl; stops = inl (omega arith) }) in
     let step : t ≡ s = ap (λ (ls : List Literal). step_of ls t.hints) literals ∙ ap (λ (hs : List ℕ). step_of s.literals hs) hints in
     (same, step, (cc))

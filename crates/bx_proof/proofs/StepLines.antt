@@ -11,32 +11,32 @@ use Rattle.bx_lines.specs.Lines.{IsLine, ended}
 use Rattle.bx_lines.specs.Decimals.{IsNumberAt}
 use Rattle.bx_lines.proofs.Numbers.{decimal_digits, one_number}
 use Rattle.bx_proof.specs.Steps.{Step, IsStep}
-use Rattle.bx_proof.specs.Texts.{closed, step_line, step_lines}
+use Rattle.bx_proof.specs.Texts.{list_text, step_line, step_lines}
 use Rattle.bx_proof.specs.Readings.{IsClosedAt, IsHint, IsStepAt}
-use Rattle.bx_proof.proofs.Closed.{spaced, closed_stops, one_closed}
+use Rattle.bx_proof.proofs.Closed.{items_text, closed_stops, one_closed}
 use Rattle.bx_proof.proofs.Numbers.{hint_spelling, literal_spelling}
 
 abbrev pub step_of : List Literal → List ℕ → Step
 step_of literals hints = record { literals = literals; hints = hints }
 
 -- a line from its parts, as they are put out
-pub line_is : (id : ℕ) (ls : List Literal) (hs : List ℕ) → decimal id ++ (spaced literal_text ls ++ (codes " 0" ++ (spaced decimal hs ++ (codes " 0" ++ 10 ∷ [])))) ≡ ended (step_line id (step_of ls hs))
+pub line_is : (id : ℕ) (ls : List Literal) (hs : List ℕ) → decimal id ++ (items_text literal_text ls ++ (codes " 0" ++ (items_text decimal hs ++ (codes " 0" ++ 10 ∷ [])))) ≡ ended (step_line id (step_of ls hs))
 line_is id ls hs =
-    let l = spaced literal_text ls in
-    let h = spaced decimal hs in
+    let l = items_text literal_text ls in
+    let h = items_text decimal hs in
     let z = codes " 0" in
     sym (
-    append_assoc (decimal id ++ closed literal_text ls) (closed decimal hs) (10 ∷ [])
-    ∙ append_assoc (decimal id) (closed literal_text ls) (closed decimal hs ++ 10 ∷ [])
-    ∙ ap (λ bs. decimal id ++ bs) (append_assoc l z (closed decimal hs ++ 10 ∷ []))
+    append_assoc (decimal id ++ list_text literal_text ls) (list_text decimal hs) (10 ∷ [])
+    ∙ append_assoc (decimal id) (list_text literal_text ls) (list_text decimal hs ++ 10 ∷ [])
+    ∙ ap (λ bs. decimal id ++ bs) (append_assoc l z (list_text decimal hs ++ 10 ∷ []))
     ∙ ap (λ bs. decimal id ++ (l ++ (z ++ bs))) (append_assoc h z (10 ∷ [])))
 
 -- a line in front of bytes
-pub line_front : (id : ℕ) (s : Step) (rest : List ℕ) → step_line id s ++ rest ≡ decimal id ++ (closed literal_text s.literals ++ (closed decimal s.hints ++ rest))
-line_front id s rest = append_assoc (decimal id ++ closed literal_text s.literals) (closed decimal s.hints) rest ∙ append_assoc (decimal id) (closed literal_text s.literals) (closed decimal s.hints ++ rest)
+pub line_front : (id : ℕ) (s : Step) (rest : List ℕ) → step_line id s ++ rest ≡ decimal id ++ (list_text literal_text s.literals ++ (list_text decimal s.hints ++ rest))
+line_front id s rest = append_assoc (decimal id ++ list_text literal_text s.literals) (list_text decimal s.hints) rest ∙ append_assoc (decimal id) (list_text literal_text s.literals) (list_text decimal s.hints ++ rest)
 
-pub number_of_line : (bytes : List ℕ) (id : ℕ) (s : Step) (rest : List ℕ) → bytes ≡ step_line id s ++ rest → IsNumberAt bytes id (closed literal_text s.literals ++ (closed decimal s.hints ++ rest))
-number_of_line bytes id s rest e = record { spelled = e ∙ line_front id s rest; stops = closed_stops literal_text s.literals (closed decimal s.hints ++ rest) }
+pub number_of_line : (bytes : List ℕ) (id : ℕ) (s : Step) (rest : List ℕ) → bytes ≡ step_line id s ++ rest → IsNumberAt bytes id (list_text literal_text s.literals ++ (list_text decimal s.hints ++ rest))
+number_of_line bytes id s rest e = record { spelled = e ∙ line_front id s rest; stops = closed_stops literal_text s.literals (list_text decimal s.hints ++ rest) }
 
 -- what a step's literals and hints are
 
@@ -56,14 +56,14 @@ step_hints id s is = hints_are id s.hints is.numbered (recursion_from_All (λ h.
 
 -- what stands at the front of a text that begins with the line of a step is that step's
 
-pub follow_number : (text : List ℕ) (id n : ℕ) (s : Step) (rest after : List ℕ) → n < 2 ^ 64 → IsStepAt text id s rest → IsNumberAt text n after → (n ≡ id) × IsClosedAt literal_text after s.literals (closed decimal s.hints ++ 10 ∷ rest)
+pub follow_number : (text : List ℕ) (id n : ℕ) (s : Step) (rest after : List ℕ) → n < 2 ^ 64 → IsStepAt text id s rest → IsNumberAt text n after → (n ≡ id) × IsClosedAt literal_text after s.literals (list_text decimal s.hints ++ 10 ∷ rest)
 follow_number text id n s rest after small at number =
-    let same = one_number text n id after (closed literal_text s.literals ++ (closed decimal s.hints ++ 10 ∷ rest)) small (omega (arith, at.step.numbered)) number (number_of_line text id s (10 ∷ rest) at.spelled) in
+    let same = one_number text n id after (list_text literal_text s.literals ++ (list_text decimal s.hints ++ 10 ∷ rest)) small (omega (arith, at.step.numbered)) number (number_of_line text id s (10 ∷ rest) at.spelled) in
     (same.0, record { spelled = same.1; stops = closed_stops decimal s.hints (10 ∷ rest) })
 
-pub follow_literals : (id : ℕ) (s : Step) (rest bytes after : List ℕ) (ls : List Literal) → IsStep id s → IsClosedAt literal_text bytes s.literals (closed decimal s.hints ++ 10 ∷ rest) → AllByRecursion IsLiteral ls → IsClosedAt literal_text bytes ls after → (ls ≡ s.literals) × IsClosedAt decimal after s.hints (10 ∷ rest)
+pub follow_literals : (id : ℕ) (s : Step) (rest bytes after : List ℕ) (ls : List Literal) → IsStep id s → IsClosedAt literal_text bytes s.literals (list_text decimal s.hints ++ 10 ∷ rest) → AllByRecursion IsLiteral ls → IsClosedAt literal_text bytes ls after → (ls ≡ s.literals) × IsClosedAt decimal after s.hints (10 ∷ rest)
 follow_literals id s rest bytes after ls is at each found =
-    let same = one_closed literal_text IsLiteral literal_spelling bytes ls s.literals after (closed decimal s.hints ++ 10 ∷ rest) each (step_literals id s is) found at in
+    let same = one_closed literal_text IsLiteral literal_spelling bytes ls s.literals after (list_text decimal s.hints ++ 10 ∷ rest) each (step_literals id s is) found at in
     (same.0, record { spelled = same.1; stops = inl (omega arith) })
 
 pub follow_hints : (id : ℕ) (s : Step) (rest bytes after : List ℕ) (hs : List ℕ) → IsStep id s → IsClosedAt decimal bytes s.hints (10 ∷ rest) → AllByRecursion IsHint hs → IsClosedAt decimal bytes hs after → (hs ≡ s.hints) × (after ≡ 10 ∷ rest)
@@ -73,7 +73,7 @@ follow_hints id s rest bytes after hs is at each found = one_closed decimal IsHi
 pub line_here : (text rest1 rest2 rest3 rest : List ℕ) (id n : ℕ) (ls : List Literal) (hs : List ℕ) → n ≡ id → IsNumberAt text n rest1 → IsClosedAt literal_text rest1 ls rest2 → IsClosedAt decimal rest2 hs rest3 → rest3 ≡ 10 ∷ rest → text ≡ step_line id (step_of ls hs) ++ 10 ∷ rest
 line_here text rest1 rest2 rest3 rest id n ls hs same number literals hints feed =
     number.spelled ∙ ap (λ k. decimal k ++ rest1) same
-    ∙ ap (λ bs. decimal id ++ bs) (literals.spelled ∙ ap (λ bs. closed literal_text ls ++ bs) (hints.spelled ∙ ap (λ bs. closed decimal hs ++ bs) feed))
+    ∙ ap (λ bs. decimal id ++ bs) (literals.spelled ∙ ap (λ bs. list_text literal_text ls ++ bs) (hints.spelled ∙ ap (λ bs. list_text decimal hs ++ bs) feed))
     ∙ sym (line_front id (step_of ls hs) (10 ∷ rest))
 
 -- no byte of it is a line feed
@@ -91,9 +91,9 @@ literal_lacks l is m = by_sign l.positive m where
   by_sign false (inl e) = absurd (omega (arith, e))
   by_sign false (inr m) = decimal_lacks l.var (omega (arith, is.below)) m
 
-closed_lacks : {X : Type 0} (text : X → List ℕ) (P : X → Type 0) (xs : List X) → ((x : X) → P x → Member 10 (text x) → ⊥) → AllByRecursion P xs → Member 10 (closed text xs) → ⊥
-closed_lacks text P xs lacks each m = lacks_append (spaced text xs) (codes " 0") in_spaced in_zero m where
-  in_spaced : Member 10 (spaced text xs) → ⊥
+closed_lacks : {X : Type 0} (text : X → List ℕ) (P : X → Type 0) (xs : List X) → ((x : X) → P x → Member 10 (text x) → ⊥) → AllByRecursion P xs → Member 10 (list_text text xs) → ⊥
+closed_lacks text P xs lacks each m = lacks_append (items_text text xs) (codes " 0") in_spaced in_zero m where
+  in_spaced : Member 10 (items_text text xs) → ⊥
   in_spaced m =
       let (x, member, at) = Member-flat_map_cases (λ y. 32 ∷ text y) 10 xs m in
       elim at [ inl e ↦ omega (arith, e) | inr h ↦ lacks x (member_of_AllByRecursion P x xs each member) h ]
@@ -105,8 +105,8 @@ closed_lacks text P xs lacks each m = lacks_append (spaced text xs) (codes " 0")
 
 pub step_line_is_line : (id : ℕ) (s : Step) → IsStep id s → IsLine (step_line id s)
 step_line_is_line id s is has =
-    lacks_append (decimal id ++ closed literal_text s.literals) (closed decimal s.hints)
-    (lacks_append (decimal id) (closed literal_text s.literals) (decimal_lacks id (omega (arith, is.numbered))) (closed_lacks literal_text IsLiteral s.literals literal_lacks (step_literals id s is)))
+    lacks_append (decimal id ++ list_text literal_text s.literals) (list_text decimal s.hints)
+    (lacks_append (decimal id) (list_text literal_text s.literals) (decimal_lacks id (omega (arith, is.numbered))) (closed_lacks literal_text IsLiteral s.literals literal_lacks (step_literals id s is)))
     (closed_lacks decimal IsHint s.hints (λ h is_hint. decimal_lacks h (omega (arith, is_hint.1))) (step_hints id s is))
     (Member-from_contains 10 (step_line id s) has)
 

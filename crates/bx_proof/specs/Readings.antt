@@ -3,7 +3,7 @@ use Rattle.std.specs.Prelude.{◌≡◌, ℕ, ◌^◌, ◌<◌, false, List, ◌
 use Rattle.bx_cnf.specs.Literals.{Literal, literal_text}
 use Rattle.bx_lines.specs.Decimals.{EndsNumber}
 use Rattle.bx_proof.specs.Steps.{Step, IsStep}
-use Rattle.bx_proof.specs.Texts.{closed, step_line}
+use Rattle.bx_proof.specs.Texts.{list_text, step_line}
 
 -- the size of a signed number, and whether it is positive; 0 is
 pub record IsSigned (l : Literal) : Type 0 where
@@ -17,7 +17,7 @@ pub record IsSignedAt (bytes : List ℕ) (l : Literal) (rest : List ℕ) : Type 
 
 -- bytes begin with numbers, each behind a space, and the 0 that ends them
 pub record IsClosedAt {X : Type 0} (text : X → List ℕ) (bytes : List ℕ) (xs : List X) (rest : List ℕ) : Type 0 where
-  pub spelled : bytes ≡ closed text xs ++ rest
+  pub spelled : bytes ≡ list_text text xs ++ rest
   pub stops : EndsNumber rest
 
 -- a hint of some step

@@ -8,12 +8,12 @@ use Rattle.bx_proof.specs.declared.fault.StepFault.TheVariants.{BadStep, NoMemor
 use Rattle.bx_proof.specs.Steps.{Step, StepList, AreSteps}
 
 -- numbers, each behind a space, and the 0 that ends them
-abbrev pub closed : {X : Type 0} → (X → List ℕ) → List X → List ℕ
-closed text xs = flat_map (λ x. 32 ∷ text x) xs ++ codes " 0"
+abbrev pub list_text : {X : Type 0} → (X → List ℕ) → List X → List ℕ
+list_text text xs = flat_map (λ x. 32 ∷ text x) xs ++ codes " 0"
 
 -- the line of a step of this id
 abbrev pub step_line : ℕ → Step → List ℕ
-step_line id step = decimal id ++ closed literal_text step.literals ++ closed decimal step.hints
+step_line id step = decimal id ++ list_text literal_text step.literals ++ list_text decimal step.hints
 
 -- the lines of steps of which the first has this id
 abbrev pub step_lines : ℕ → List Step → List (List ℕ)

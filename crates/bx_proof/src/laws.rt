@@ -12,6 +12,8 @@ pub fn a_text_has_one_log()
 
 /// Bytes have one first bad line at most, and none where they are the text of a log.
 pub fn a_text_of_a_log_has_no_bad_line()
-    ensures one { (bytes : List ℕ) (j k : ℕ) → IsFirstBadLine IsLogText bytes j → IsFirstBadLine IsLogText bytes k → j ≡ k }
-    ensures none { (bytes : List ℕ) (k : ℕ) → IsLogText bytes → IsFirstBadLine IsLogText bytes k → ⊥ }
+    ensures one { (bytes : List ℕ) (j k : ℕ) → IsFirstBadLine IsLogText bytes j
+        → IsFirstBadLine IsLogText bytes k → j ≡ k }
+    ensures none { (bytes : List ℕ) (k : ℕ) → IsLogText bytes → IsFirstBadLine IsLogText bytes k
+        → ⊥ }
 {}

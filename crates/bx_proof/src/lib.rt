@@ -29,4 +29,4 @@ pub use fault::StepFault;
 pub use read::read_steps;
 pub use refutation::Refutation;
 pub use steps::{Steps, is_step};
-pub use write::write_steps;
+pub use write::{print_steps, write_steps};

@@ -105,8 +105,11 @@ fn read_hints<'a>(bytes: &'a [u8], hints: &mut Vec<u32>) -> Result<Option<&'a [u
 
 // The signed number at the front of bytes, and what stands behind it; `-0` is none.
 fn signed_at(bytes: &[u8]) -> Option<(i32, &[u8])>
-    ensures found { IfSome result (λ found. IsSigned (literal_of found.0) × IsSignedAt bytes.now (literal_of found.0) found.1.now) }
-    ensures none { IfNone result ((l : Literal) (rest : List ℕ) → IsSigned l → IsSignedAt bytes.now l rest → ⊥) }
+    ensures found { IfSome result
+        (λ found. IsSigned (literal_of found.0)
+        × IsSignedAt bytes.now (literal_of found.0) found.1.now) }
+    ensures none { IfNone result
+        ((l : Literal) (rest : List ℕ) → IsSigned l → IsSignedAt bytes.now l rest → ⊥) }
 {
     if let Some(digits) = behind_byte(bytes, b'-') {
         let (size, rest) = number_at(digits, MAX_VARIABLE)?;

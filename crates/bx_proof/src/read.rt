@@ -19,11 +19,14 @@ pub fn read_steps(alloc: Global, text: &[u8]) -> Result<Steps, StepFault>
     // The steps that are answered are those of the text.
     ensures found { IfOk result (λ log. IsTextOf log text.now) }
     // Where the text is that of steps they are answered, unless memory runs out.
-    ensures only { (log : StepList) → IsTextOf log text.now → MatchResult result (λ steps. steps ≡ log) (λ fault. fault ≡ StepFault.NoMemory) }
+    ensures only { (log : StepList) → IsTextOf log text.now
+        → MatchResult result (λ steps. steps ≡ log) (λ fault. fault ≡ StepFault.NoMemory) }
     // The line that is answered is the first bad one.
-    ensures bad { (k : ℕ) → result ≡ Err (StepFault.BadStep k) → IsFirstBadLine IsLogText text.now k }
+    ensures bad { (k : ℕ) → result ≡ Err (StepFault.BadStep k)
+        → IsFirstBadLine IsLogText text.now k }
     // Where there is a first bad line it is answered, unless memory runs out.
-    ensures exact { (k : ℕ) → IsFirstBadLine IsLogText text.now k → result ≢ Err StepFault.NoMemory → result ≡ Err (StepFault.BadStep k) }
+    ensures exact { (k : ℕ) → IsFirstBadLine IsLogText text.now k → result ≢ Err StepFault.NoMemory
+        → result ≡ Err (StepFault.BadStep k) }
 {
     let Some((first, _)) = number_at(text, 4_294_967_295) else {
         return Err(StepFault::BadStep(1));

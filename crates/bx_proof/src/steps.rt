@@ -48,8 +48,10 @@ impl Steps {
     ///
     /// `NoMemory`, and the steps are then as before.
     pub fn push(&mut self, literals: &[Lit], hints: &[u32]) -> Result<(), NoMemory>
-        requires { IsStep (self.old.first + length self.old.steps) (record { literals = literals.now; hints = hints.now }) }
-        ensures ok { OnOk result (self.new ≡ record self.old { steps = self.old.steps ++ record { literals = literals.now; hints = hints.now } ∷ [] }) }
+        requires { IsStep (self.old.first + length self.old.steps)
+            (record { literals = literals.now; hints = hints.now }) }
+        ensures ok { OnOk result
+            (self.new ≡ record self.old { steps = self.old.steps ++ record { literals = literals.now; hints = hints.now } ∷ [] }) }
         ensures err { OnErr result (self.new ≡ self.old) }
     {
         self.literals.push(literals)?;
@@ -85,7 +87,8 @@ impl Steps {
     /// The literals of step k, counted from 0.
     pub fn literals(&self, k: u32) -> &[Lit]
         requires { k < length self.now.steps }
-        ensures value { option_map (λ step. step.literals) (slice_get self.now.steps k) ≡ Some result.now }
+        ensures value { option_map (λ step. step.literals)
+            (slice_get self.now.steps k) ≡ Some result.now }
         ensures formed { IsClause 2147483647 result.now }
     {
         self.literals.list(k as usize)
@@ -94,7 +97,8 @@ impl Steps {
     /// The hints of step k, counted from 0.
     pub fn hints(&self, k: u32) -> &[u32]
         requires { k < length self.now.steps }
-        ensures value { option_map (λ step. step.hints) (slice_get self.now.steps k) ≡ Some result.now }
+        ensures value { option_map (λ step. step.hints)
+            (slice_get self.now.steps k) ≡ Some result.now }
         ensures some { 0 < length result.now }
         ensures before { All (λ h. (0 < h) × (h < self.now.first + k)) result.now }
     {

@@ -1,18 +1,11 @@
 -- Lines as they are put out, one after another and word by word, are those of the definitions.
-use Rattle.std.proofs.Common.{◌≡◌, ℕ, zero, suc, ◌+◌, ◌<◌, ◌≤◌, Bool, true, false, not, ◌==◌, ◌||◌, List, [], ◌∷◌, ◌++◌, length, map, filter, get_or, take, Option, Some, None, Result, Ok, Err, ◌↔◌, if◌then◌else◌, sym, ◌∙◌, ap, ap₂, refl, arith, append_assoc, eq-eqb}
-use Rattle.std.specs.Prelude.{codes, decimal, option_map, slice_get, slice_index_or, IsTrue}
+use Rattle.std.proofs.Common.{◌≡◌, ℕ, zero, suc, Bool, true, false, not, ◌==◌, ◌||◌, List, [], ◌∷◌, ◌++◌, length, map, filter, Option, Some, None, ◌↔◌, if◌then◌else◌, sym, ◌∙◌, ap, ap₂, refl, append_assoc, eq-eqb}
+use Rattle.std.specs.Prelude.{codes, decimal, slice_get, slice_index_or, IsTrue}
 use Rattle.std.specs.List.{flat_map, filter_map, cons_option, range_with_len, list_any}
-use Rattle.std.specs.Result.{IsErr}
 use Rattle.std.proofs.lemmas.Bool.{eqb-true, and_parts}
-use Rattle.std.proofs.lemmas.List.{take_all, append-nil}
-use Rattle.std.proofs.lemmas.List.FromFn.{length-range_with_len, get_or-range_with_len}
+use Rattle.std.proofs.lemmas.List.{append-nil}
 use Rattle.std.proofs.lemmas.List.Concat.{flat_map-append}
 use Rattle.bx_logic.specs.Nets.{Netlist, output_names}
-use Rattle.bx_desk.specs.Desk.{DeskState}
-use Rattle.bx_desk.specs.Pieces.{PutsOut}
-use Rattle.bx_desk.specs.declared.desk.Failed.{Failed}
-use Rattle.bx_desk.specs.declared.piece.Piece.{Piece}
-use Rattle.bx_desk.proofs.Saying.{says_turn, says_turn_failed, says_as}
 use Rattle.bx_forms.specs.declared.kind.Kind.{Kind}
 use Rattle.bx_forms.specs.declared.kind.Kind.TheVariants.{Input, Output, Not, Fan, And, Or, Nand, Nor, Xor, Xnor}
 use Rattle.bx_grid.specs.declared.ratio.Ratio.{Ratio}
@@ -21,19 +14,19 @@ use Rattle.bx_network.specs.Networks.{Network, HasPort, is_output}
 use Rattle.bx_layout.specs.Valuations.{is_input}
 use Rattle.bx_layout.specs.Pins.{Pin, pins_at}
 use Rattle.bx_lines.specs.Lines.{ended, text_of}
-use Rattle.bx_says.specs.declared.words.Word.{Word}
+use Rattle.bx_desk.specs.declared.printer.Word.{Word}
 use Rattle.bx_says.specs.Texts.{Text, spaced}
-use Rattle.bx_says.specs.Words.{word_text, further_text}
+use Rattle.bx_desk.specs.Words.{word_text, further_text, line_text}
 use Rattle.bx_says.specs.Ports.{Port, Ports, is_input_at, is_unused, unused_names, tile_of, port_at, ports_of}
 use Rattle.bx_says.specs.Reports.{module_line, nodes_line, Report, unused_line, found_line, port_line, port_lines, row_lines, head_of, head_lines, tile_name, report_text}
-use Rattle.bx_says.specs.Parts.{unused_text_at, unused_text, port_text, ports_text, tiles_text}
+use Rattle.bx_says.specs.Parts.{unused_text_at, unused_text, port_text, port_on, ports_text, tiles_text}
 
 spaced_words : (words : List Word) → further_text words ≡ flat_map (λ word. 32 ∷ word) (map word_text words)
 spaced_words [] = refl
 spaced_words (word ∷ words) = ap (λ (xs : Text). (32 ∷ word_text word) ++ xs) (spaced_words words)
 
 -- a line: a word, further words, and a line feed
-pub line_is : (first : Text) (words : List Word) → first ++ (further_text words ++ 10 ∷ []) ≡ spaced first (map word_text words) ++ 10 ∷ []
+pub line_is : (first : Text) (words : List Word) → line_text first words ≡ spaced first (map word_text words) ++ 10 ∷ []
 line_is first words = sym (append_assoc first (further_text words) (10 ∷ [])) ∙ ap (λ (xs : Text). (first ++ xs) ++ 10 ∷ []) (spaced_words words)
 
 -- the line of a row, its tiles one after another
@@ -78,15 +71,12 @@ ports_are word ratio f (n ∷ ns) = by (f n) (ports_are word ratio f ns)
     by None rest = rest
     by (Some port) rest = ap (λ (xs : Text). ended (port_line word ratio port) ++ xs) rest
 
-abbrev named : Text → ℕ → Port
-named name tile = record { name = name; tile = tile }
-
 -- the line of a port whose name and tile are found
 pub port_is : (word : Text) (ratio : Ratio) (names : List Text) (pins : List Pin) (port : ℕ) (name : Text) (tile : Option ℕ) → name ≡ slice_index_or names port [] → tile ≡ tile_of pins port
-    → port_text word ratio (option_map (named name) tile) ≡ port_text word ratio (port_at names pins port)
+    → port_text word ratio (port_on name tile) ≡ port_text word ratio (port_at names pins port)
 port_is word ratio names pins port name tile is_name is_tile =
-    ap (λ (n : Text). port_text word ratio (option_map (named n) tile)) is_name
-    ∙ ap (λ (found : Option ℕ). port_text word ratio (option_map (named (slice_index_or names port [])) found)) is_tile
+    ap (λ (n : Text). port_text word ratio (port_on n tile)) is_name
+    ∙ ap (λ (found : Option ℕ). port_text word ratio (port_on (slice_index_or names port []) found)) is_tile
 
 -- the lines of the inputs, and then those of the outputs
 pub pins_are : (net : Netlist) (N : Network) (ratio : Ratio) (places : List ℕ)
@@ -177,24 +167,3 @@ unused_as N port b tells = by b (list_any (is_input_at port) N.nodes) refl tells
         let none : (v : ℕ) → HasPort N v Input port → ⊥ = λ v found. let yes = found_any N.nodes port v found in cc in
         let is : false ≡ true = tells.1 none in
         cc
-
--- ---- a loop over numbers from 0 on
-
-module _ (f : ℕ → Text) (n : ℕ) (old mid new : DeskState) (p0 p1 p2 : Piece) (y : ℕ) (h : y < n) where
-  -- a turn
-  pub range_turn : (r : Result (Unit {0}) Failed) → r ≡ Ok tt → PutsOut {T = Unit {0}} old mid (Ok tt) p0 p1 (flat_map f (take y (range_with_len 0 n))) → PutsOut mid new r p1 p2 (f y)
-      → PutsOut {T = Unit {0}} old new (Ok tt) p0 p2 (flat_map f (take (y + 1) (range_with_len 0 n)))
-  range_turn r ok before turn =
-      let same : y ≡ get_or (range_with_len 0 n) y 0 = omega (arith, get_or-range_with_len 0 n y 0 h) in
-      says_turn old mid new r p0 p1 p2 f (range_with_len 0 n) y 0 (omega (arith, length-range_with_len 0 n)) ok before (says_as _ _ _ _ _ _ _ (ap f same) turn)
-
-  -- a turn that failed
-  pub range_turn_failed : {T : Type 0} (r : Result (Unit {0}) Failed) (e : Failed) (result : Result T Failed) → r ≡ Err e → IsErr result → PutsOut {T = Unit {0}} old mid (Ok tt) p0 p1 (flat_map f (take y (range_with_len 0 n))) → PutsOut mid new r p1 p2 (f y)
-      → PutsOut old new result p0 p2 (flat_map f (range_with_len 0 n))
-  range_turn_failed r e result err is before turn =
-      let same : y ≡ get_or (range_with_len 0 n) y 0 = omega (arith, get_or-range_with_len 0 n y 0 h) in
-      says_turn_failed old mid new r e result p0 p1 p2 f (range_with_len 0 n) y 0 (omega (arith, length-range_with_len 0 n)) err is before (says_as _ _ _ _ _ _ _ (ap f same) turn)
-
--- the end
-pub range_end : {T : Type 0} (f : ℕ → Text) (n y : ℕ) (old new : DeskState) (result : Result T Failed) (p0 p1 : Piece) → n ≤ y → PutsOut old new result p0 p1 (flat_map f (take y (range_with_len 0 n))) → PutsOut old new result p0 p1 (flat_map f (range_with_len 0 n))
-range_end f n y old new result p0 p1 h puts = says_as _ _ _ _ _ _ _ (ap (flat_map f) (take_all y (range_with_len 0 n) (omega (arith, length-range_with_len 0 n)))) puts

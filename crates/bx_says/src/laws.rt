@@ -12,7 +12,8 @@ ghost use Rattle.bx_says.specs.Reports.{Report, report_of, HasPlainNames, IsRepo
 /// Reports with the same text are the same: in the module's name, the size of its network, the names of the
 /// unused inputs, the ports and their tiles, and the grid.
 pub fn a_report_shows_one_layout()
-    ensures { (r s : Report) → IsReportable r → IsReportable s → report_text r ≡ report_text s → r ≡ s }
+    ensures { (r s : Report) → IsReportable r → IsReportable s → report_text r ≡ report_text s
+        → r ≡ s }
 {}
 
 /// Where no name has a space or a line feed in it, and the nodes stand on tiles of a grid of forms, the report

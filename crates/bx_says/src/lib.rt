@@ -22,7 +22,8 @@ mod pins;
 mod rows;
 mod words;
 
+pub use bx_desk::Word;
 pub use head::say_head;
 pub use pins::say_pins;
 pub use rows::say_rows;
-pub use words::{Word, put_line, put_spaced, put_word, put_words};
+pub use words::{put_line, put_spaced, put_word, put_words};

@@ -2,12 +2,12 @@
 ghost use Rattle.std.specs.Prelude.{◌≡◌, ◌∷◌, flat_map};
 ghost use Rattle.bx_desk.specs.Desk.{CanPut};
 ghost use Rattle.bx_desk.specs.Pieces.{target_of, PutsOut};
+ghost use Rattle.bx_desk.specs.Printing.{Prints};
 ghost use Rattle.bx_lines.specs.Lines.{text_of};
 ghost use Rattle.bx_says.specs.Parts.{tiles_text};
 ghost use Rattle.bx_says.specs.Reports.{tile_name, row_lines};
 
-use crate::words::{Word, put_spaced, put_word};
-use bx_desk::{Desk, Failed, Piece};
+use bx_desk::{Desk, Failed, Piece, Printer, Word};
 use bx_forms::Form;
 use bx_layout::FormGrid;
 
@@ -18,39 +18,40 @@ use bx_layout::FormGrid;
 /// `Failed` only where the desk failed, and its count of such failures rose.
 pub fn say_rows<D: Desk>(grid: &FormGrid, piece: &mut Piece, desk: &mut D) -> Result<(), Failed>
     requires { CanPut (target_of piece.old) (D.state desk.old) }
-    ensures { PutsOut (D.state desk.old) (D.state desk.new) result piece.old piece.new (text_of (row_lines grid.now)) }
+    ensures { PutsOut (D.state desk.old) (D.state desk.new) result piece.old piece.new
+        (text_of (row_lines grid.now)) }
+{
+    let mut printer = Printer::new(piece, desk);
+    print_rows(grid, &mut printer);
+    printer.outcome()
+}
+
+// Likewise, through a printer.
+fn print_rows<D: Desk>(grid: &FormGrid, printer: &mut Printer<D>)
+    ensures { Prints printer.old printer.new (text_of (row_lines grid.now)) }
 {
     for y in 0..grid.ratio().h {
-        say_row(grid.row(y), y, piece, desk)?;
+        print_row(grid.row(y), y, printer);
     }
-    Ok(())
 }
 
-// Puts out the line of a row.
-fn say_row<D: Desk>(
-    tiles: &[Option<Form>],
-    y: u32,
-    piece: &mut Piece,
-    desk: &mut D,
-) -> Result<(), Failed>
-    requires { CanPut (target_of piece.old) (D.state desk.old) }
-    ensures { PutsOut (D.state desk.old) (D.state desk.new) result piece.old piece.new (tiles_text y tiles.now) }
+// The line of a row.
+fn print_row<D: Desk>(tiles: &[Option<Form>], y: u32, printer: &mut Printer<D>)
+    ensures { Prints printer.old printer.new (tiles_text y tiles.now) }
 {
-    put_word(Word::Text(b"row"), piece, desk)?;
-    put_spaced(Word::Number(y as u64), piece, desk)?;
-    say_tiles(tiles, piece, desk)?;
-    put_word(Word::Text(b"\n"), piece, desk)
+    printer.bytes(b"row");
+    printer.further(Word::Number(y as u64));
+    print_tiles(tiles, printer);
+    printer.end_line();
 }
 
-// Puts out the names of the forms on tiles, each behind a space.
-fn say_tiles<D: Desk>(tiles: &[Option<Form>], piece: &mut Piece, desk: &mut D) -> Result<(), Failed>
-    requires { CanPut (target_of piece.old) (D.state desk.old) }
-    ensures { PutsOut (D.state desk.old) (D.state desk.new) result piece.old piece.new (flat_map (λ tile. 32 ∷ tile_name tile) tiles.now) }
+// The names of the forms on tiles, each behind a space.
+fn print_tiles<D: Desk>(tiles: &[Option<Form>], printer: &mut Printer<D>)
+    ensures { Prints printer.old printer.new (flat_map (λ tile. 32 ∷ tile_name tile) tiles.now) }
 {
     for tile in tiles {
-        put_spaced(Word::Text(name_of(*tile)), piece, desk)?;
+        printer.further(Word::Text(name_of(*tile)));
     }
-    Ok(())
 }
 
 // What is printed for a tile.

@@ -3,6 +3,5 @@ pub mod OneLine
 pub mod Fronts
 pub mod OneDesign
 pub mod Stops
-pub mod Putting
 pub mod Order
 pub mod Written

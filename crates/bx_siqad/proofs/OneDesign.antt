@@ -8,7 +8,8 @@ use Rattle.bx_library.specs.declared.dot.Dot.{Dot}
 use Rattle.bx_lines.specs.Lines.{IsLine, ended, text_of, IsFirstBadLine}
 use Rattle.bx_lines.proofs.FirstLines.{same_line}
 use Rattle.bx_lines.proofs.BadLines.{one_bad_line, no_bad_line}
-use Rattle.bx_siqad.specs.Designs.{Drawing, IsRatio, IsDot}
+use Rattle.bx_siqad.specs.Designs.{Drawing, IsDot}
+use Rattle.bx_grid.specs.Orders.{IsRatio}
 use Rattle.bx_siqad.specs.Texts.{back_lines, ratio_line, dot_line, head_lines, design_lines, IsTextOf, IsDesignText, Reads}
 use Rattle.bx_siqad.specs.declared.fault.DesignFault.{DesignFault}
 use Rattle.bx_siqad.specs.declared.fault.DesignFault.TheVariants.{BadDesign, NoMemory}

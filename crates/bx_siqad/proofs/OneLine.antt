@@ -1,47 +1,18 @@
 -- No byte of a design's line is a line feed, and no line of a dot ends the dots.
-use Rattle.std.proofs.Common.{◌≡◌, ℕ, ◌<◌, ◌≤◌, ◌^◌, Bool, true, false, cond, List, [], ◌∷◌, ◌++◌, map, refl, ap, arith}
-use Rattle.std.proofs.lemmas.Bool.{ltb-true}
-use Rattle.std.specs.Prelude.{codes, decimal, nat_lt}
+use Rattle.std.proofs.Common.{◌≡◌, ℕ, ◌<◌, ◌^◌, true, List, [], ◌∷◌, ◌++◌, map, refl, ap, arith}
+use Rattle.std.specs.Prelude.{codes, decimal}
 use Rattle.std.specs.List.{AllByRecursion}
 use Rattle.bx_grid.specs.declared.ratio.Ratio.{Ratio}
 use Rattle.bx_library.specs.declared.dot.Dot.{Dot}
 use Rattle.bx_lines.specs.Lines.{IsLine}
-use Rattle.bx_lines.proofs.Numbers.{decimal_digits}
-use Rattle.bx_logic.proofs.Members.{Member-from_contains, member_of_AllByRecursion}
-use Rattle.bx_siqad.specs.Designs.{Drawing, IsRatio, IsDot, IsDrawing}
+use Rattle.bx_lines.proofs.Above.{Above, above, above_are, all_append, decimal_above, above_is_line}
+use Rattle.bx_siqad.specs.Designs.{Drawing, IsDot, IsDrawing}
+use Rattle.bx_grid.specs.Orders.{IsRatio}
 use Rattle.bx_siqad.specs.Texts.{front_lines, middle_lines, back_lines, ratio_line, dot_line, head_lines, design_lines}
-
-abbrev Above : ℕ → Type 0
-Above b = 10 < b
-
-above : List ℕ → Bool
-above [] = true
-above (b ∷ bs) = cond (nat_lt 10 b) (above bs) false
-
-above_are : (bs : List ℕ) → above bs ≡ true → AllByRecursion Above bs
-unfolding above
-above_are [] e = tt
-above_are (b ∷ bs) e = by (nat_lt 10 b) refl e (above_are bs) where
-  by : (t : Bool) → nat_lt 10 b ≡ t → cond t (above bs) false ≡ true → (above bs ≡ true → AllByRecursion Above bs) → (10 < b) × AllByRecursion Above bs
-  by true at e inner = (ltb-true 10 b at, inner e)
-  by false at e inner = let never : ⊥ = cc in absurd never
-
-pub all_append : {X : Type 0} (P : X → Type 0) (xs ys : List X) → AllByRecursion P xs → AllByRecursion P ys → AllByRecursion P (xs ++ ys)
-all_append P [] ys a b = b
-all_append P (x ∷ xs) ys a b = (a.0, all_append P xs ys a.1 b)
-
-digits_above : (ds : List ℕ) → AllByRecursion (λ b. (48 ≤ b) × (b ≤ 57)) ds → AllByRecursion Above ds
-digits_above [] a = tt
-digits_above (d ∷ ds) a = ((omega (arith, a.0.0)), digits_above ds a.1)
 
 -- a word, a number and more
 field_above : (word : List ℕ) (n : ℕ) (more : List ℕ) → above word ≡ true → n < 2 ^ 64 → AllByRecursion Above more → AllByRecursion Above (word ++ (decimal n ++ more))
-field_above word n more is small are = all_append Above word (decimal n ++ more) (above_are word is) (all_append Above (decimal n) more (digits_above (decimal n) (decimal_digits n small)) are)
-
-above_is_line : (line : List ℕ) → AllByRecursion Above line → IsLine line
-above_is_line line are has =
-    let ten : 10 < 10 = member_of_AllByRecursion Above 10 line are (Member-from_contains 10 line has) in
-    omega (arith, ten)
+field_above word n more is small are = all_append Above word (decimal n ++ more) (above_are word is) (all_append Above (decimal n) more (decimal_above n small) are)
 
 word_is_line : (word : List ℕ) → above word ≡ true → IsLine word
 word_is_line word is = above_is_line word (above_are word is)

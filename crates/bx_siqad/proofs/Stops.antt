@@ -10,12 +10,14 @@ use Rattle.bx_library.specs.declared.dot.Dot.{Dot}
 use Rattle.bx_library.specs.Dots.{IsBefore, IsAscending}
 use Rattle.bx_lines.specs.Lines.{ended, text_of, IsFirstBadLine}
 use Rattle.bx_lines.proofs.FirstLines.{same_line}
-use Rattle.bx_siqad.specs.Designs.{Drawing, IsRatio, IsDot, IsDrawing}
+use Rattle.bx_siqad.specs.Designs.{Drawing, IsDot, IsDrawing}
+use Rattle.bx_grid.specs.Orders.{IsRatio}
 use Rattle.bx_siqad.specs.Texts.{front_lines, middle_lines, back_lines, ratio_line, dot_line, head_lines, design_lines, IsTextOf, IsDesignText, Reads}
 use Rattle.bx_siqad.specs.Readings.{IsRatioAt, IsDotAt, StopsWithin, IsLineFault, IsDisorderAt, IsDotFault}
 use Rattle.bx_siqad.specs.declared.fault.DesignFault.{DesignFault}
 use Rattle.bx_siqad.specs.declared.fault.DesignFault.TheVariants.{BadDesign, NoMemory}
-use Rattle.bx_siqad.proofs.OneLine.{all_append, dot_is_line, dot_ends_none}
+use Rattle.bx_siqad.proofs.OneLine.{dot_is_line, dot_ends_none}
+use Rattle.bx_lines.proofs.Above.{all_append}
 use Rattle.bx_siqad.proofs.OneDesign.{dots_front, head_front, no_bytes}
 use Rattle.bx_siqad.proofs.Fronts.{Begins, NoneGoesOn, first_bad, line_within, all_mid}
 

@@ -2,7 +2,7 @@
 use Rattle.std.specs.Prelude.{◌≤◌, List}
 use Rattle.std.specs.List.{AllByRecursion}
 use Rattle.bx_grid.specs.declared.ratio.Ratio.{Ratio}
-use Rattle.bx_grid.specs.declared.ratio.TheConstants.{MOST_LIMIT}
+use Rattle.bx_grid.specs.Orders.{IsRatio}
 use Rattle.bx_library.specs.Dots.{IsAscending}
 use Rattle.bx_library.specs.declared.dot.Dot.{Dot}
 
@@ -10,13 +10,6 @@ use Rattle.bx_library.specs.declared.dot.Dot.{Dot}
 pub record Drawing : Type 0 where
   pub ratio : Ratio
   pub dots : List Dot
-
--- each side is from 1 to 144
-pub record IsRatio (ratio : Ratio) : Type 0 where
-  pub some_width : 1 ≤ ratio.w
-  pub some_height : 1 ≤ ratio.h
-  pub width : ratio.w ≤ MOST_LIMIT
-  pub height : ratio.h ≤ MOST_LIMIT
 
 -- a dot that a design can have
 pub record IsDot (dot : Dot) : Type 0 where

@@ -6,7 +6,8 @@ use Rattle.bx_library.specs.declared.dot.Dot.{Dot}
 use Rattle.bx_library.specs.Dots.{IsAscending}
 use Rattle.bx_lines.specs.Decimals.{EndsNumber}
 use Rattle.bx_lines.specs.Lines.{ended, text_of}
-use Rattle.bx_siqad.specs.Designs.{IsRatio, IsDot}
+use Rattle.bx_siqad.specs.Designs.{IsDot}
+use Rattle.bx_grid.specs.Orders.{IsRatio}
 use Rattle.bx_siqad.specs.Texts.{ratio_line, dot_line}
 use Rattle.bx_siqad.specs.declared.fault.DesignFault.{DesignFault}
 use Rattle.bx_siqad.specs.declared.fault.DesignFault.TheVariants.{BadDesign, NoMemory}

@@ -26,11 +26,14 @@ pub fn read_design(alloc: Global, bytes: &[u8]) -> Result<Design, DesignFault>
     // The design that is answered is that of the text.
     ensures found { IfOk result (λ design. IsTextOf design bytes.now) }
     // Where the text is that of a design it is answered, unless memory runs out.
-    ensures only { (drawing : Drawing) → IsTextOf drawing bytes.now → MatchResult result (λ answer. answer ≡ drawing) (λ fault. fault ≡ DesignFault.NoMemory) }
+    ensures only { (drawing : Drawing) → IsTextOf drawing bytes.now
+        → MatchResult result (λ answer. answer ≡ drawing) (λ fault. fault ≡ DesignFault.NoMemory) }
     // The line that is answered is the first bad one.
-    ensures bad { (k : ℕ) → result ≡ Err (DesignFault.BadDesign k) → IsFirstBadLine IsDesignText bytes.now k }
+    ensures bad { (k : ℕ) → result ≡ Err (DesignFault.BadDesign k)
+        → IsFirstBadLine IsDesignText bytes.now k }
     // Where there is a first bad line it is answered, unless memory runs out.
-    ensures exact { (k : ℕ) → IsFirstBadLine IsDesignText bytes.now k → result ≢ Err DesignFault.NoMemory → result ≡ Err (DesignFault.BadDesign k) }
+    ensures exact { (k : ℕ) → IsFirstBadLine IsDesignText bytes.now k
+        → result ≢ Err DesignFault.NoMemory → result ≡ Err (DesignFault.BadDesign k) }
 {
     read_whole(alloc, bytes)
 }

@@ -25,7 +25,8 @@ pub(crate) fn behind_line<'a>(text: &'a [u8], line: &str) -> Option<&'a [u8]>
 /// stands there.
 pub(crate) fn ratio_at(text: &[u8]) -> Option<(Ratio, &[u8])>
     ensures found { IfSome result (λ found. IsRatioAt text.now found.0 found.1.now) }
-    ensures none { IfNone result ((ratio : Ratio) (rest : List ℕ) → IsRatioAt text.now ratio rest → ⊥) }
+    ensures none { IfNone result
+        ((ratio : Ratio) (rest : List ℕ) → IsRatioAt text.now ratio rest → ⊥) }
 {
     let (w, rest) = number_behind(text, "<created_by>bestagon ", MOST_LIMIT)?;
     let (h, rest) = number_behind(rest, " ", MOST_LIMIT)?;
@@ -55,7 +56,8 @@ pub(crate) fn dot_at(text: &[u8]) -> Option<(Dot, &[u8])>
 fn number_behind<'a>(text: &'a [u8], word: &str, limit: u32) -> Option<(u32, &'a [u8])>
     ensures small { IfSome result (λ found. found.0 ≤ limit) }
     ensures found { IfSome result (λ found. IsNumberBehind text.now word.now found.0 found.1.now) }
-    ensures none { IfNone result ((n : ℕ) (rest : List ℕ) → n ≤ limit → IsNumberBehind text.now word.now n rest → ⊥) }
+    ensures none { IfNone result
+        ((n : ℕ) (rest : List ℕ) → n ≤ limit → IsNumberBehind text.now word.now n rest → ⊥) }
 {
     let (n, rest) = number_at(behind(text, word)?, u64::from(limit))?;
     Some((n as u32, rest))

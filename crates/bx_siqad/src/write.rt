@@ -1,15 +1,17 @@
-//! Writing a design: each line through a piece, without memory.
-ghost use Rattle.std.specs.Prelude.{◌++◌, [], ◌∷◌, decimal, flat_map};
+//! Writing a design: each line through a printer, without memory.
+ghost use Rattle.std.specs.Prelude.{◌++◌, decimal, flat_map};
 ghost use Rattle.std.specs.List.{AllByRecursion};
 ghost use Rattle.bx_desk.specs.Desk.{CanPut};
 ghost use Rattle.bx_desk.specs.Pieces.{target_of, PutsOut};
+ghost use Rattle.bx_desk.specs.Printing.{Prints};
+ghost use Rattle.bx_grid.specs.Orders.{IsRatio};
 ghost use Rattle.bx_library.specs.Dots.{IsAscending};
 ghost use Rattle.bx_lines.specs.Lines.{ended};
-ghost use Rattle.bx_siqad.specs.Designs.{IsRatio, IsDot};
-ghost use Rattle.bx_siqad.specs.Texts.{ratio_line, dot_line, design_text, IsTextOf};
+ghost use Rattle.bx_siqad.specs.Designs.{IsDot};
+ghost use Rattle.bx_siqad.specs.Texts.{ratio_line, dot_line, design_text};
 
 use crate::lines::{BACK, FRONT, MIDDLE};
-use bx_desk::{Desk, Failed, Piece};
+use bx_desk::{Desk, Failed, Piece, Printer};
 use bx_grid::Ratio;
 use bx_library::Dot;
 
@@ -28,112 +30,91 @@ pub fn write_design<D: Desk>(
     requires ratio { IsRatio ratio }
     requires dots { AllByRecursion IsDot dots.now }
     requires ascending { IsAscending dots.now }
-    ensures puts_out { PutsOut (D.state desk.old) (D.state desk.new) result piece.old piece.new (design_text (record { ratio = ratio; dots = dots.now })) }
-    // That is the text of this design.
-    ensures text { IsTextOf (record { ratio = ratio; dots = dots.now }) (design_text (record { ratio = ratio; dots = dots.now })) }
+    ensures { PutsOut (D.state desk.old) (D.state desk.new) result piece.old piece.new
+        (design_text (record { ratio = ratio; dots = dots.now })) }
 {
-    put_lines(&FRONT, piece, desk)?;
-    put_ratio(ratio, piece, desk)?;
-    put_lines(&MIDDLE, piece, desk)?;
-    put_dots(dots, piece, desk)?;
-    put_lines(&BACK, piece, desk)
+    let mut printer = Printer::new(piece, desk);
+    print_design(ratio, dots, &mut printer);
+    printer.outcome()
 }
 
-// Puts out these lines.
-fn put_lines<D: Desk>(lines: &[&str], piece: &mut Piece, desk: &mut D) -> Result<(), Failed>
-    requires { CanPut (target_of piece.old) (D.state desk.old) }
-    ensures { PutsOut (D.state desk.old) (D.state desk.new) result piece.old piece.new (flat_map (λ line. ended line.now) lines.now) }
+// Likewise, through a printer.
+fn print_design<D: Desk>(ratio: Ratio, dots: &[Dot], printer: &mut Printer<D>)
+    ensures { Prints printer.old printer.new
+        (design_text (record { ratio = ratio; dots = dots.now })) }
+{
+    print_lines(&FRONT, printer);
+    print_ratio(ratio, printer);
+    print_lines(&MIDDLE, printer);
+    print_dots(dots, printer);
+    print_lines(&BACK, printer);
+}
+
+// These lines.
+fn print_lines<D: Desk>(lines: &[&str], printer: &mut Printer<D>)
+    ensures { Prints printer.old printer.new (flat_map (λ line. ended line.now) lines.now) }
 {
     for line in lines {
-        put_line(&[], line, piece, desk)?;
+        print_line(&[], line, printer);
     }
-    Ok(())
 }
 
-// Puts out the line of the sides.
-fn put_ratio<D: Desk>(ratio: Ratio, piece: &mut Piece, desk: &mut D) -> Result<(), Failed>
-    requires { CanPut (target_of piece.old) (D.state desk.old) }
-    ensures { PutsOut (D.state desk.old) (D.state desk.new) result piece.old piece.new (ended (ratio_line ratio)) }
+// The line of the sides.
+fn print_ratio<D: Desk>(ratio: Ratio, printer: &mut Printer<D>)
+    ensures { Prints printer.old printer.new (ended (ratio_line ratio)) }
 {
     let fields = [
         ("<created_by>bestagon ", u64::from(ratio.w)),
         (" ", u64::from(ratio.h)),
     ];
-    put_line(&fields, "</created_by>", piece, desk)
+    print_line(&fields, "</created_by>", printer);
 }
 
-// Puts out a line for each dot.
-fn put_dots<D: Desk>(dots: &[Dot], piece: &mut Piece, desk: &mut D) -> Result<(), Failed>
-    requires { CanPut (target_of piece.old) (D.state desk.old) }
-    ensures { PutsOut (D.state desk.old) (D.state desk.new) result piece.old piece.new (flat_map (λ dot. ended (dot_line dot)) dots.now) }
+// A line for each dot.
+fn print_dots<D: Desk>(dots: &[Dot], printer: &mut Printer<D>)
+    ensures { Prints printer.old printer.new (flat_map (λ dot. ended (dot_line dot)) dots.now) }
 {
     for dot in dots {
-        put_dot(*dot, piece, desk)?;
+        print_dot(*dot, printer);
     }
-    Ok(())
 }
 
-// Puts out the line of a dot.
-fn put_dot<D: Desk>(dot: Dot, piece: &mut Piece, desk: &mut D) -> Result<(), Failed>
-    requires { CanPut (target_of piece.old) (D.state desk.old) }
-    ensures { PutsOut (D.state desk.old) (D.state desk.new) result piece.old piece.new (ended (dot_line dot)) }
+// The line of a dot.
+fn print_dot<D: Desk>(dot: Dot, printer: &mut Printer<D>)
+    ensures { Prints printer.old printer.new (ended (dot_line dot)) }
 {
     let fields = [
         ("<dbdot><latcoord n=\"", u64::from(dot.n)),
         ("\" m=\"", u64::from(dot.m)),
         ("\" l=\"", u64::from(dot.l)),
     ];
-    put_line(&fields, "\"/></dbdot>", piece, desk)
+    print_line(&fields, "\"/></dbdot>", printer);
 }
 
-// Puts out a line of words with a number behind each, and what ends it.
-fn put_line<D: Desk>(
-    fields: &[(&str, u64)],
-    end: &str,
-    piece: &mut Piece,
-    desk: &mut D,
-) -> Result<(), Failed>
-    requires { CanPut (target_of piece.old) (D.state desk.old) }
-    ensures { PutsOut (D.state desk.old) (D.state desk.new) result piece.old piece.new (flat_map (λ field. field.0.now ++ decimal field.1) fields.now ++ ended end.now) }
+// A line of words with a number behind each, and what ends it.
+fn print_line<D: Desk>(fields: &[(&str, u64)], end: &str, printer: &mut Printer<D>)
+    ensures { Prints printer.old printer.new
+        (flat_map (λ field. field.0.now ++ decimal field.1) fields.now ++ ended end.now) }
 {
-    put_fields(fields, piece, desk)?;
-    put_word(end, piece, desk)?;
-    put_word("\n", piece, desk)
+    print_fields(fields, printer);
+    printer.bytes(end.as_bytes());
+    printer.end_line();
 }
 
-// Puts out words with a number behind each.
-fn put_fields<D: Desk>(
-    fields: &[(&str, u64)],
-    piece: &mut Piece,
-    desk: &mut D,
-) -> Result<(), Failed>
-    requires { CanPut (target_of piece.old) (D.state desk.old) }
-    ensures { PutsOut (D.state desk.old) (D.state desk.new) result piece.old piece.new (flat_map (λ field. field.0.now ++ decimal field.1) fields.now) }
+// Words with a number behind each.
+fn print_fields<D: Desk>(fields: &[(&str, u64)], printer: &mut Printer<D>)
+    ensures { Prints printer.old printer.new
+        (flat_map (λ field. field.0.now ++ decimal field.1) fields.now) }
 {
     for field in fields {
-        put_field(field.0, field.1, piece, desk)?;
+        print_field(field.0, field.1, printer);
     }
-    Ok(())
 }
 
-// Puts out a word and a number.
-fn put_field<D: Desk>(
-    word: &str,
-    number: u64,
-    piece: &mut Piece,
-    desk: &mut D,
-) -> Result<(), Failed>
-    requires { CanPut (target_of piece.old) (D.state desk.old) }
-    ensures { PutsOut (D.state desk.old) (D.state desk.new) result piece.old piece.new (word.now ++ decimal number) }
+// A word and a number.
+fn print_field<D: Desk>(word: &str, number: u64, printer: &mut Printer<D>)
+    ensures { Prints printer.old printer.new (word.now ++ decimal number) }
 {
-    put_word(word, piece, desk)?;
-    piece.put_number(number, desk)
-}
-
-// Puts out a word.
-fn put_word<D: Desk>(word: &str, piece: &mut Piece, desk: &mut D) -> Result<(), Failed>
-    requires { CanPut (target_of piece.old) (D.state desk.old) }
-    ensures { PutsOut (D.state desk.old) (D.state desk.new) result piece.old piece.new word.now }
-{
-    piece.put(word.as_bytes(), desk)
+    printer.bytes(word.as_bytes());
+    printer.number(number);
 }

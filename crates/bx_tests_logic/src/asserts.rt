@@ -49,18 +49,8 @@ pub fn is_file_in(rt: &impl Abort, case: &str, found: Option<&[u8]>, wanted: Opt
     assert_eq!(rt; found, wanted.map(|text| text.as_bytes()), "{case}");
 }
 
-/// The numbers of nets are the same.
-pub fn are_nets(rt: &impl Abort, found: &[u32], wanted: &[u32]) {
-    assert_eq!(rt; found, wanted);
-}
-
 /// The number of a net, if there is one, is the same in the row of this number.
 pub fn is_net_in_row(rt: &impl Abort, row: usize, found: Option<u32>, wanted: Option<u32>) {
-    assert_eq!(rt; found, wanted, "row {row}");
-}
-
-/// The values are the same in the row of this number.
-pub fn are_values_in_row(rt: &impl Abort, row: usize, found: &[bool], wanted: &[bool]) {
     assert_eq!(rt; found, wanted, "row {row}");
 }
 

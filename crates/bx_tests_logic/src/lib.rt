@@ -13,10 +13,8 @@ mod files;
 #[cfg(test)]
 mod lines;
 #[cfg(test)]
-mod logic;
-#[cfg(test)]
-mod nets;
-#[cfg(test)]
 mod pieces;
+#[cfg(test)]
+mod printers;
 #[cfg(test)]
 mod words;

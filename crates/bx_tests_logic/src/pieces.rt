@@ -3,7 +3,7 @@
 ghost use Rattle.std.specs.Prelude.{◌<◌, IfOk, IsSome};
 ghost use Rattle.bx_desk.specs.Desk.{CanPut};
 ghost use Rattle.bx_desk.specs.Pieces.{target_of};
-ghost use Rattle.bx_desk.specs.Memory.{shown, seen};
+ghost use Rattle.bx_desk.specs.Memory.{state_of, desk_of};
 
 use crate::asserts::{is_bytes, is_bytes_in, is_so, is_so_in};
 use bx_desk::{Desk, Failed, MemDesk, Piece};
@@ -82,7 +82,7 @@ fn put_text(
     size: usize,
     desk: &mut MemDesk,
 ) -> Result<bool, AllocError>
-    requires { CanPut (target_of piece) (seen (shown desk.old)) }
+    requires { CanPut (target_of piece) (desk_of (state_of desk.old)) }
 {
     assert!(rt; size > 0);
     let text = text(alloc, 10_000)?;
@@ -92,7 +92,7 @@ fn put_text(
 
 fn put_all(mut piece: Piece, text: &[u8], size: usize, desk: &mut MemDesk) -> Result<(), Failed>
     requires sized { 0 < size }
-    requires can { CanPut (target_of piece) (seen (shown desk.old)) }
+    requires can { CanPut (target_of piece) (desk_of (state_of desk.old)) }
 {
     for part in text.chunks(size) {
         piece.put(part, desk)?;
@@ -120,7 +120,7 @@ fn text_and_numbers(alloc: Global) -> Result<Vec<u8>, AllocError> {
 
 // A desk that has started the file "f", with room for the whole text in it and beside it.
 fn roomy(alloc: Global) -> Result<MemDesk, Fail>
-    ensures { IfOk result (λ desk. IsSome (seen (shown desk)).started) }
+    ensures { IfOk result (λ desk. IsSome (desk_of (state_of desk)).started) }
 {
     let mut desk = MemDesk::new(alloc);
     desk.say_room(20_000)?;
@@ -131,7 +131,7 @@ fn roomy(alloc: Global) -> Result<MemDesk, Fail>
 
 // The same, which fails at the second full buffer: the start is call 1, so that is call 3.
 fn failing(alloc: Global) -> Result<MemDesk, Fail>
-    ensures { IfOk result (λ desk. IsSome (seen (shown desk)).started) }
+    ensures { IfOk result (λ desk. IsSome (desk_of (state_of desk)).started) }
 {
     let mut desk = roomy(alloc)?;
     desk.fail_at(3, 5)?;

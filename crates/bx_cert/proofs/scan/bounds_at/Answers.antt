@@ -1,6 +1,5 @@
 use Rattle.std.proofs.Common.{◌≡◌, ◌≤◌, ◌∷◌, [], true, get_or, refl, ap, arith}
 use Rattle.std.specs.Prelude.{codes}
-use Rattle.bx_cert.specs.declared.parts.TheConstants.{MOST_BUDGET}
 use Rattle.bx_cert.proofs.Words.{one_worded}
 use Rattle.bx_cert.proofs.Lines.{bounds_there, same_limits}
 use Rattle.bx_cert.proofs.scan.bounds_at.Goals as goal
@@ -19,6 +18,6 @@ pub returns-then-not-is_budget-clause-none : goal.returns-then-not-is_budget-cla
 returns-then-not-is_budget-clause-none c = λ limits budget rest at.
     let same = one_worded c.args.text.now (codes "limits") c.worded_at.new.numbers (limits.area ∷ limits.width ∷ limits.height ∷ budget ∷ []) c.in_ok-rest.rest.now rest (omega arith) c.in_ok-rest.ensures.found (bounds_there c.args.text.now limits budget rest at) in
     let own : get_or c.worded_at.new.numbers 3 0 ≡ budget = ap (λ xs. get_or xs 3 0) same.0 in
-    let small : c.from-budget.result ≤ MOST_BUDGET = omega (arith, own, c.from-budget.ensures, at.said.1) in
+    let small : c.from-budget.result ≤ 67108864 = omega (arith, own, c.from-budget.ensures, at.said.1) in
     let is : c.is_budget.result ≡ true = c.is_budget.ensures.1 small in
     cc

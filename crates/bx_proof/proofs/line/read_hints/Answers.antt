@@ -2,7 +2,7 @@ use Rattle.std.proofs.Common.{◌++◌, sym, ◌∙◌, ap, subst, arith}
 use Rattle.std.specs.Prelude.{decimal}
 use Rattle.std.specs.List.{AllByRecursion}
 use Rattle.bx_proof.specs.Readings.{IsHint}
-use Rattle.bx_proof.proofs.Closed.{spaced, next_of, no_next, no_space, each_push, one_more, closed_here}
+use Rattle.bx_proof.proofs.Closed.{items_text, next_of, no_next, no_space, each_push, one_more, closed_here}
 use Rattle.bx_proof.proofs.Numbers.{decimal_zero, zero_at, hint_spelling}
 use Rattle.bx_proof.proofs.line.read_hints.Goals as goal
 
@@ -27,7 +27,7 @@ loop-word-preserved c =
     let items = c.in_ok-push.ensures.items in
     let is : IsHint hint = (omega (arith, c.if-hint-eq0.false), omega (arith, found.0)) in
     record {
-      spelled = one_more decimal c.args.bytes.now c.loop-word.rest.now c.in-Some.word.now behind c.loop-word.hints.items hint c.loop-word.invariant.spelled c.in-Some.ensures.found found.1.spelled ∙ ap (λ hs. spaced decimal hs ++ behind) (sym items);
+      spelled = one_more decimal c.args.bytes.now c.loop-word.rest.now c.in-Some.word.now behind c.loop-word.hints.items hint c.loop-word.invariant.spelled c.in-Some.ensures.found found.1.spelled ∙ ap (λ hs. items_text decimal hs ++ behind) (sym items);
       each = subst (AllByRecursion IsHint) (sym items) (each_push IsHint c.loop-word.hints.items hint c.loop-word.invariant.each is);
       goes_on = λ hs r each at.
           let (more, are, closed) = c.loop-word.invariant.goes_on hs r each at in

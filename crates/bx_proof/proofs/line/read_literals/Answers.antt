@@ -1,7 +1,7 @@
 use Rattle.std.proofs.Common.{true, ◌++◌, refl, sym, ◌∙◌, ap, subst}
 use Rattle.std.specs.List.{AllByRecursion}
 use Rattle.bx_cnf.specs.Literals.{IsLiteral, literal_of, literal_text}
-use Rattle.bx_proof.proofs.Closed.{spaced, next_of, no_next, no_space, each_push, one_more, closed_here}
+use Rattle.bx_proof.proofs.Closed.{items_text, next_of, no_next, no_space, each_push, one_more, closed_here}
 use Rattle.bx_proof.proofs.Numbers.{literal, decimal_zero, literal_spelling, signed_literal, signed_zero, zero_signed_at, no_literal, as_written}
 use Rattle.bx_proof.proofs.line.read_literals.Goals as goal
 
@@ -31,7 +31,7 @@ loop-word-preserved c =
     let is : IsLiteral l = subst IsLiteral (sym c.in-Some-from_number.ensures.value) (c.in-Some-from_number.ensures.some.0 refl) in
     let spelled = found.1.spelled ∙ ap (λ m. literal_text m ++ behind) (sym same) in
     record {
-      spelled = one_more literal_text c.args.bytes.now c.loop-word.rest.now c.in-Some.word.now behind c.loop-word.literals.items l c.loop-word.invariant.spelled c.in-Some.ensures.found spelled ∙ ap (λ ls. spaced literal_text ls ++ behind) (sym items);
+      spelled = one_more literal_text c.args.bytes.now c.loop-word.rest.now c.in-Some.word.now behind c.loop-word.literals.items l c.loop-word.invariant.spelled c.in-Some.ensures.found spelled ∙ ap (λ ls. items_text literal_text ls ++ behind) (sym items);
       each = subst (AllByRecursion IsLiteral) (sym items) (each_push IsLiteral c.loop-word.literals.items l c.loop-word.invariant.each is);
       goes_on = λ ls r each at.
           let (more, are, closed) = c.loop-word.invariant.goes_on ls r each at in

@@ -4,7 +4,7 @@ use Rattle.bx_library.specs.Dots.{IsAscending}
 use Rattle.bx_lines.specs.Lines.{text_of}
 use Rattle.bx_siqad.specs.Designs.{IsDot}
 use Rattle.bx_siqad.specs.Texts.{dot_line}
-use Rattle.bx_siqad.proofs.OneLine.{all_append}
+use Rattle.bx_lines.proofs.Above.{all_append}
 use Rattle.bx_siqad.proofs.Stops.{dots_more}
 use Rattle.bx_siqad.proofs.read.read_dots.Goals as goal
 

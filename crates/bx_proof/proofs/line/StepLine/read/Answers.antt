@@ -2,7 +2,7 @@ use Rattle.std.proofs.Common.{◌≡◌, List, ℕ, Bor, true, ◌∷◌, ◌++�
 use Rattle.std.specs.Prelude.{decimal}
 use Rattle.bx_cnf.specs.Literals.{Literal}
 use Rattle.bx_proof.specs.Steps.{IsStep}
-use Rattle.bx_proof.specs.Texts.{closed}
+use Rattle.bx_proof.specs.Texts.{list_text}
 use Rattle.bx_proof.proofs.StepLines.{step_of, number_of_line, step_literals, step_hints, follow_number, follow_literals, follow_hints, line_here, match_found}
 use Rattle.bx_proof.proofs.line.StepLine.read.Goals as goal
 
@@ -18,7 +18,7 @@ pub returns-in_default-2 : goal.returns-in_default-2
 returns-in_default-2 c = λ s r at.
     let (same, literals_at) = follow_number c.args.text.now c.args.id c.in-Some.number s r c.in-Some.rest.now (omega (arith, c.in-Some.ensures.found.0)) at c.in-Some.ensures.found.1 in
     let none = rw c.in_default-2.is at c.in_ok-rest.ensures in
-    none s.literals (closed decimal s.hints ++ 10 ∷ r) (step_literals c.args.id s at.step) literals_at
+    none s.literals (list_text decimal s.hints ++ 10 ∷ r) (step_literals c.args.id s at.step) literals_at
 
 pub returns-in_default-3 : goal.returns-in_default-3
 returns-in_default-3 c = λ s r at.

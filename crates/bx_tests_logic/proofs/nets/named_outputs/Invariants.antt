@@ -1,5 +1,0 @@
-use Rattle.std.proofs.Common.{◌≡◌, List, ℕ, map, take}
-use Rattle.bx_tests_logic.proofs.nets.named_outputs.Given as goal
-
-abbrev pub invariant-loop-net : goal.invariant-loop-net
-invariant-loop-net l = map (λ (output : List ℕ × ℕ). output.1) l.named.items ≡ take l.net-index l.nets

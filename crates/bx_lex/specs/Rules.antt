@@ -7,16 +7,16 @@ use Rattle.bx_lex.specs.declared.token.TokenKind.{TokenKind}
 use Rattle.bx_lex.specs.declared.token.TokenKind.TheVariants.{Word, Escaped, Number, Symbol}
 use Rattle.bx_lex.specs.declared.token.LexFault.{LexFault}
 use Rattle.bx_lex.specs.declared.token.LexFault.TheVariants.{BadByte, OpenComment, OpenAttribute}
-use Rattle.bx_lex.specs.declared.rules.Piece.{Piece}
+use Rattle.bx_lex.specs.declared.rules.Lexeme.{Lexeme}
 use Rattle.bx_lex.specs.Bytes.{is_word_start, is_word_byte, is_shown, is_base, is_number_byte, is_symbol}
 
 -- so many bytes that stand between tokens
-abbrev pub gap : ℕ → Piece
+abbrev pub gap : ℕ → Lexeme
 gap n = record { len = n; kind = None }
 
 -- a token of so many bytes
-abbrev pub lexeme : TokenKind → ℕ → Piece
-lexeme kind n = record { len = n; kind = Some kind }
+abbrev pub token_of : TokenKind → ℕ → Lexeme
+token_of kind n = record { len = n; kind = Some kind }
 
 -- the text begins with these bytes
 abbrev pub begins : List ℕ → List ℕ → Bool
@@ -32,13 +32,13 @@ through close [] = None
 through close (b ∷ rest) = if begins close (b ∷ rest) then Some (length close) else option_map (λ n. n + 1) (through close rest)
 
 -- all up to the end of what closes it, or the fault where nothing does
-abbrev pub ended : LexFault → Option ℕ → Result Piece LexFault
-ended fault None = Err fault
-ended fault (Some n) = Ok (gap (2 + n))
+abbrev pub gap_or : LexFault → Option ℕ → Result Lexeme LexFault
+gap_or fault None = Err fault
+gap_or fault (Some n) = Ok (gap (2 + n))
 
 -- a comment or an attribute: the two bytes that open it, and all up to the end of the first `close` behind them
-abbrev pub closed_by : List ℕ → LexFault → List ℕ → Result Piece LexFault
-closed_by close fault text = ended fault (through close (drop 2 text))
+abbrev pub gap_to : List ℕ → LexFault → List ℕ → Result Lexeme LexFault
+gap_to close fault text = gap_or fault (through close (drop 2 text))
 
 -- `'`, a letter of a base, and the longest run of letters, digits and `_`, where the first two stand there
 abbrev pub base_len : List ℕ → ℕ
@@ -50,24 +50,24 @@ abbrev pub number_len : List ℕ → ℕ
 number_len text = let digits = prefix_len is_ascii_digit text in digits + base_len (drop digits text)
 
 -- `\`, and the longest run of bytes that show, which isn't empty
-abbrev pub escaped : ℕ → List ℕ → Result Piece LexFault
-escaped place text =
+abbrev pub escape_at : ℕ → List ℕ → Result Lexeme LexFault
+escape_at place text =
     let run = prefix_len is_shown (drop 1 text) in
-    if run == 0 then Err (BadByte place) else Ok (lexeme Escaped (1 + run))
+    if run == 0 then Err (BadByte place) else Ok (token_of Escaped (1 + run))
 
 -- What the first rule that fits takes of the text that stands at this place, or the fault there.
-unfoldable pub front : ℕ → List ℕ → Result Piece LexFault
+unfoldable pub front : ℕ → List ℕ → Result Lexeme LexFault
 front place text =
     if is_ascii_whitespace (slice_index text 0) then Ok (gap 1)
     else (if begins (codes "//") text then Ok (gap (line_len text))
-    else (if begins (codes "/*") text then closed_by (codes "*/") (OpenComment place) text
-    else (if begins (codes "(*)") text then Ok (lexeme Symbol 1)
-    else (if begins (codes "(*") text then closed_by (codes "*)") (OpenAttribute place) text
-    else (if is_word_start (slice_index text 0) then Ok (lexeme Word (prefix_len is_word_byte text))
-    else (if slice_index text 0 == 92 then escaped place text
-    else (if is_ascii_digit (slice_index text 0) then Ok (lexeme Number (number_len text))
-    else (if begins (codes "~^") text || begins (codes "^~") text then Ok (lexeme Symbol 2)
-    else (if is_symbol (slice_index text 0) then Ok (lexeme Symbol 1)
+    else (if begins (codes "/*") text then gap_to (codes "*/") (OpenComment place) text
+    else (if begins (codes "(*)") text then Ok (token_of Symbol 1)
+    else (if begins (codes "(*") text then gap_to (codes "*)") (OpenAttribute place) text
+    else (if is_word_start (slice_index text 0) then Ok (token_of Word (prefix_len is_word_byte text))
+    else (if slice_index text 0 == 92 then escape_at place text
+    else (if is_ascii_digit (slice_index text 0) then Ok (token_of Number (number_len text))
+    else (if begins (codes "~^") text || begins (codes "^~") text then Ok (token_of Symbol 2)
+    else (if is_symbol (slice_index text 0) then Ok (token_of Symbol 1)
     else Err (BadByte place))))))))))
 
 -- A text is some bytes, this close and what stands behind it, and no close begins sooner.

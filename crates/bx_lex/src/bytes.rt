@@ -1,49 +1,54 @@
 //! The classes of bytes that the rules speak of.
 ghost use Rattle.std.specs.Prelude.{◌≡◌};
-ghost use Rattle.bx_lex.specs.Bytes.{is_word_start, is_word_byte, is_shown, is_base, is_number_byte, is_symbol};
+ghost use Rattle.bx_lex.specs.Bytes.{is_word_start, is_base, is_symbol, is_of};
 
 // The bytes of punctuation that are symbols.
 const SYMBOLS: [u8; 30] = *b"(),;=~&^|[]{}#@?:.+-*/%<>!'\"$`";
 
-// Whether a word may begin with the byte.
 pub(crate) fn is_word_start(byte: u8) -> bool
     ensures { result ≡ is_word_start byte }
 {
     byte.is_ascii_alphabetic() || byte == b'_'
 }
 
-// Whether a word may go on with the byte.
-pub(crate) fn is_word_byte(byte: u8) -> bool
-    ensures { result ≡ is_word_byte byte }
-{
-    byte.is_ascii_alphanumeric() || byte == b'_' || byte == b'$'
-}
-
-// Whether the byte may stand in an escaped word.
-pub(crate) fn is_shown(byte: u8) -> bool
-    ensures { result ≡ is_shown byte }
-{
-    33 <= byte && byte <= 126
-}
-
-// Whether the byte is the letter of a base.
 pub(crate) fn is_base(byte: u8) -> bool
     ensures { result ≡ is_base byte }
 {
     b"bBoOdDhH".contains(&byte)
 }
 
-// Whether the byte may stand behind the letter of a base.
-pub(crate) fn is_number_byte(byte: u8) -> bool
-    ensures { result ≡ is_number_byte byte }
-{
-    byte.is_ascii_alphanumeric() || byte == b'_'
-}
-
-// Whether the byte is a symbol.
 #[tactic(auto, unfolding(crate::specs::Bytes::is_symbol))]
 pub(crate) fn is_symbol(byte: u8) -> bool
     ensures { result ≡ is_symbol byte }
 {
     SYMBOLS.contains(&byte)
+}
+
+// The classes of which a rule takes the longest run of bytes.
+#[derive(Clone, Copy)]
+pub(crate) enum Class {
+    // All but a line feed.
+    Line,
+    // What a word goes on with.
+    Word,
+    // What stands in an escaped word.
+    Shown,
+    Digit,
+    // What stands behind the letter of a base.
+    Based,
+}
+
+impl Class {
+    // Whether the byte is of the class.
+    pub(crate) fn has(self, byte: u8) -> bool
+        ensures { result ≡ is_of self byte }
+    {
+        match self {
+            Class::Line => byte != b'\n',
+            Class::Word => byte.is_ascii_alphanumeric() || byte == b'_' || byte == b'$',
+            Class::Shown => 33 <= byte && byte <= 126,
+            Class::Digit => byte.is_ascii_digit(),
+            Class::Based => byte.is_ascii_alphanumeric() || byte == b'_',
+        }
+    }
 }

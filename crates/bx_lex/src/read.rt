@@ -1,7 +1,6 @@
-//! The reader: it cuts a text into pieces, one after the other, and keeps those that are tokens.
-ghost use Rattle.std.specs.Prelude.{◌≡◌, ◌≢◌, ◌++◌, length, Result, Err, IfOk, IfErr};
-ghost use Rattle.bx_lex.specs.Tokens.{TokenList, HasTokens, HasFault, Reads, token_at};
-ghost use Rattle.bx_lex.specs.declared.token.LexFault.{LexFault};
+//! The reader: it cuts a text into lexemes, one after the other, and keeps those that are tokens.
+ghost use Rattle.std.specs.Prelude.{◌≡◌, ◌≢◌, ◌++◌, length, Err, IfOk, IfErr, OnOk};
+ghost use Rattle.bx_lex.specs.Tokens.{Reading, HasTokens, HasFault, Reads, token_at, token_list};
 
 use crate::rules;
 use crate::token::{LexFault, Token, TokenKind};
@@ -19,7 +18,7 @@ pub fn read_tokens(alloc: Global, text: &[u8]) -> Result<Tokens, LexFault>
     // The fault that is answered is the first of the text.
     ensures faults { IfErr result (λ fault. fault ≢ LexFault.NoMemory → HasFault text.now fault) }
     // What the text reads as is answered, unless memory runs out.
-    ensures exact { (r : Result TokenList LexFault) → Reads text.now r → result ≢ Err LexFault.NoMemory → result ≡ r }
+    ensures exact { (r : Reading) → Reads text.now r → result ≢ Err LexFault.NoMemory → result ≡ r }
     // The end is the length of the text.
     ensures whole { IfOk result (λ tokens. tokens.end ≡ length text.now) }
 {
@@ -27,20 +26,20 @@ pub fn read_tokens(alloc: Global, text: &[u8]) -> Result<Tokens, LexFault>
     Ok(Tokens::new(tokens, text.len() as u64))
 }
 
-// Cuts the text into pieces, from its first byte to its last, and keeps those that are tokens.
+// Cuts the text into lexemes, from its first byte to its last, and keeps those that are tokens.
 fn cut(alloc: Global, text: &[u8]) -> Result<Vec<Token>, LexFault>
-    ensures found { IfOk result (λ tokens. HasTokens text.now (record { tokens = tokens.items; end = length text.now })) }
+    ensures found { IfOk result (λ ts. HasTokens text.now (token_list ts.items (length text.now))) }
     ensures faults { IfErr result (λ fault. fault ≢ LexFault.NoMemory → HasFault text.now fault) }
 {
     let mut tokens = Vec::new(alloc);
     let mut place: u64 = 0;
     let mut rest = text;
     while !rest.is_empty() {
-        let piece = rules::front_of(place, rest)?;
-        let end = place + piece.len as u64;
-        put(&mut tokens, place, end, piece.kind)?;
+        let lexeme = rules::front_of(place, rest)?;
+        let end = place + lexeme.len as u64;
+        put(&mut tokens, place, end, lexeme.kind)?;
         place = end;
-        rest = &rest[piece.len..];
+        rest = &rest[lexeme.len..];
     }
     Ok(tokens)
 }
@@ -52,7 +51,7 @@ fn put(
     end: u64,
     kind: Option<TokenKind>,
 ) -> Result<(), LexFault>
-    ensures put { IfOk result (λ _. tokens.new.items ≡ tokens.old.items ++ token_at start end kind) }
+    ensures put { OnOk result (tokens.new.items ≡ tokens.old.items ++ token_at start end kind) }
     ensures failed { IfErr result (λ fault. fault ≡ LexFault.NoMemory) }
 {
     if let Some(kind) = kind {

@@ -1,18 +1,17 @@
 //! The rules, one a function: what the first rule that fits takes of a text. Each function sees the
 //! rest of the text alone, as a list of bytes. Where the text stands is only passed on to its faults.
 ghost use Rattle.std.specs.Prelude.{◌≡◌, ◌<◌, ◌≤◌, length, IfSome};
-ghost use Rattle.std.specs.Char.{is_ascii_digit};
 ghost use Rattle.std.specs.List.{prefix_len};
-ghost use Rattle.bx_lex.specs.Bytes.{is_word_byte, is_shown, is_number_byte};
-ghost use Rattle.bx_lex.specs.Rules.{gap, lexeme, line_len, through, closed_by, base_len, number_len, escaped, front};
+ghost use Rattle.bx_lex.specs.Bytes.{is_of};
+ghost use Rattle.bx_lex.specs.Rules.{gap, token_of, through, gap_to, base_len, number_len, escape_at, front};
 
-use crate::bytes;
+use crate::bytes::{self, Class};
 use crate::token::{LexFault, TokenKind};
 
 // A front of a text: how many bytes it has, and which kind of token it is, or none where it stands
 // between tokens.
 #[derive(Clone, Copy)]
-pub(crate) struct Piece {
+pub(crate) struct Lexeme {
     pub(crate) len: usize,
     pub(crate) kind: Option<TokenKind>,
 }
@@ -23,7 +22,7 @@ pub(crate) struct Piece {
 //
 // The fault at the place, where no rule fits or a comment or an attribute doesn't end.
 #[tactic(auto, unfolding(crate::specs::Rules::front))]
-pub(crate) fn front_of(place: u64, text: &[u8]) -> Result<Piece, LexFault>
+pub(crate) fn front_of(place: u64, text: &[u8]) -> Result<Lexeme, LexFault>
     requires { 0 < length text.now }
     ensures { result ≡ front place text.now }
 {
@@ -31,23 +30,23 @@ pub(crate) fn front_of(place: u64, text: &[u8]) -> Result<Piece, LexFault>
     if first.is_ascii_whitespace() {
         Ok(gap(1))
     } else if text.starts_with(b"//") {
-        Ok(gap(line_len(text)))
+        Ok(gap(run_len(Class::Line, text)))
     } else if text.starts_with(b"/*") {
-        closed_by(b"*/", LexFault::OpenComment(place), text)
+        gap_to(b"*/", LexFault::OpenComment(place), text)
     } else if text.starts_with(b"(*)") {
-        Ok(lexeme(TokenKind::Symbol, 1))
+        Ok(token_of(TokenKind::Symbol, 1))
     } else if text.starts_with(b"(*") {
-        closed_by(b"*)", LexFault::OpenAttribute(place), text)
+        gap_to(b"*)", LexFault::OpenAttribute(place), text)
     } else if bytes::is_word_start(first) {
-        Ok(lexeme(TokenKind::Word, word_len(text)))
+        Ok(token_of(TokenKind::Word, run_len(Class::Word, text)))
     } else if first == b'\\' {
-        escaped(place, text)
+        escape_at(place, text)
     } else if first.is_ascii_digit() {
-        Ok(lexeme(TokenKind::Number, number_len(text)))
+        Ok(token_of(TokenKind::Number, number_len(text)))
     } else if text.starts_with(b"~^") || text.starts_with(b"^~") {
-        Ok(lexeme(TokenKind::Symbol, 2))
+        Ok(token_of(TokenKind::Symbol, 2))
     } else if bytes::is_symbol(first) {
-        Ok(lexeme(TokenKind::Symbol, 1))
+        Ok(token_of(TokenKind::Symbol, 1))
     } else {
         Err(LexFault::BadByte(place))
     }
@@ -55,9 +54,9 @@ pub(crate) fn front_of(place: u64, text: &[u8]) -> Result<Piece, LexFault>
 
 // A comment or an attribute: the two bytes that open it, and all up to the end of the first `close`
 // behind them.
-fn closed_by(close: &[u8; 2], fault: LexFault, text: &[u8]) -> Result<Piece, LexFault>
+fn gap_to(close: &[u8; 2], fault: LexFault, text: &[u8]) -> Result<Lexeme, LexFault>
     requires { 2 ≤ length text.now }
-    ensures { result ≡ closed_by close.now fault text.now }
+    ensures { result ≡ gap_to close.now fault text.now }
 {
     match through(close, &text[2..]) {
         Some(len) => Ok(gap(2 + len)),
@@ -79,22 +78,21 @@ fn through(close: &[u8; 2], text: &[u8]) -> Option<usize>
 }
 
 // A `\`, and the longest run of bytes that show.
-fn escaped(place: u64, text: &[u8]) -> Result<Piece, LexFault>
+fn escape_at(place: u64, text: &[u8]) -> Result<Lexeme, LexFault>
     requires { 0 < length text.now }
-    ensures { result ≡ escaped place text.now }
+    ensures { result ≡ escape_at place text.now }
 {
-    let run = shown_len(&text[1..]);
+    let run = run_len(Class::Shown, &text[1..]);
     if run == 0 {
         return Err(LexFault::BadByte(place));
     }
-    Ok(lexeme(TokenKind::Escaped, 1 + run))
+    Ok(token_of(TokenKind::Escaped, 1 + run))
 }
 
-// The length of a number: the longest run of digits, and a base behind it.
 fn number_len(text: &[u8]) -> usize
     ensures { result ≡ number_len text.now }
 {
-    let digits = digits_len(text);
+    let digits = run_len(Class::Digit, text);
     digits + base_len(&text[digits..])
 }
 
@@ -106,67 +104,27 @@ fn base_len(text: &[u8]) -> usize
     if text.len() < 2 || text[0] != b'\'' || !bytes::is_base(text[1]) {
         return 0;
     }
-    2 + based_len(&text[2..])
+    2 + run_len(Class::Based, &text[2..])
 }
 
-// How many bytes stand before the next line feed, or before the end of the text.
-fn line_len(text: &[u8]) -> usize
-    ensures value { result ≡ line_len text.now }
+// How long the run of a class is with which a text begins.
+fn run_len(class: Class, text: &[u8]) -> usize
+    ensures value { result ≡ prefix_len (is_of class) text.now }
     ensures within { result ≤ length text.now }
 {
-    text.iter().take_while(|byte| **byte != b'\n').count()
+    text.iter().take_while(|byte| class.has(**byte)).count()
 }
 
-// How many bytes at the front may stand in a word.
-fn word_len(text: &[u8]) -> usize
-    ensures value { result ≡ prefix_len is_word_byte text.now }
-    ensures within { result ≤ length text.now }
-{
-    text.iter()
-        .take_while(|byte| bytes::is_word_byte(**byte))
-        .count()
-}
-
-// How many bytes at the front may stand in an escaped word.
-fn shown_len(text: &[u8]) -> usize
-    ensures value { result ≡ prefix_len is_shown text.now }
-    ensures within { result ≤ length text.now }
-{
-    text.iter()
-        .take_while(|byte| bytes::is_shown(**byte))
-        .count()
-}
-
-// How many bytes at the front are digits.
-fn digits_len(text: &[u8]) -> usize
-    ensures value { result ≡ prefix_len is_ascii_digit text.now }
-    ensures within { result ≤ length text.now }
-{
-    text.iter().take_while(|byte| byte.is_ascii_digit()).count()
-}
-
-// How many bytes at the front may stand behind the letter of a base.
-fn based_len(text: &[u8]) -> usize
-    ensures value { result ≡ prefix_len is_number_byte text.now }
-    ensures within { result ≤ length text.now }
-{
-    text.iter()
-        .take_while(|byte| bytes::is_number_byte(**byte))
-        .count()
-}
-
-// So many bytes that stand between tokens.
-fn gap(len: usize) -> Piece
+fn gap(len: usize) -> Lexeme
     ensures { result ≡ gap len }
 {
-    Piece { len, kind: None }
+    Lexeme { len, kind: None }
 }
 
-// A token of so many bytes.
-fn lexeme(kind: TokenKind, len: usize) -> Piece
-    ensures { result ≡ lexeme kind len }
+fn token_of(kind: TokenKind, len: usize) -> Lexeme
+    ensures { result ≡ token_of kind len }
 {
-    Piece {
+    Lexeme {
         len,
         kind: Some(kind),
     }

@@ -23,12 +23,12 @@ impl Model for Tokens {
 }
 
 impl Tokens {
-    ghost use Rattle.bx_lex.specs.Tokens.{AreSpans};
+    ghost use Rattle.bx_lex.specs.Tokens.{AreSpans, token_list};
 
     // Tokens that stand in order in a text of this length.
     pub(crate) fn new(tokens: Vec<Token>, end: u64) -> Self
         requires { AreSpans 0 tokens.items end }
-        ensures { result ≡ record { tokens = tokens.items; end = end } }
+        ensures { result ≡ token_list tokens.items end }
     {
         Tokens { tokens, end }
     }

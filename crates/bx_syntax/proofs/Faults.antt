@@ -8,7 +8,7 @@ use Rattle.std.proofs.lemmas.Option.{slice_get-map}
 use Rattle.bx_lex.specs.declared.token.Token.{Token}
 use Rattle.bx_lex.specs.Tokens.{TokenList}
 use Rattle.bx_syntax.specs.declared.terminal.Terminal.{Terminal}
-use Rattle.bx_syntax.specs.declared.terminal.Terminal.TheVariants.{Mark, Name, Number, Reserved, Symbol}
+use Rattle.bx_syntax.specs.declared.terminal.Terminal.TheVariants.{Fixed, Name, Number, Reserved, Symbol}
 use Rattle.bx_syntax.specs.declared.terminal.Mark.TheVariants.{Module as ModuleWord}
 use Rattle.bx_syntax.specs.declared.fault.Construct.{Construct}
 use Rattle.bx_syntax.specs.declared.fault.ReadFault.{ReadFault}
@@ -24,7 +24,7 @@ use Rattle.bx_syntax.specs.Gives.{Gives}
 use Rattle.bx_syntax.specs.Constructs.{construct_of, construct_behind, fault_with}
 use Rattle.bx_syntax.specs.Faults.{Begins, Stops, IsDeep, IsConstruct, IsConstructAt, place_of, IsFault, HasReadFault}
 use Rattle.bx_syntax.proofs.ReadsModules.{module_reads}
-use Rattle.bx_syntax.proofs.Stopping.{Found, found}
+use Rattle.bx_syntax.proofs.Stopping.{Found, found, same_some}
 
 -- what begins a module begins one with fewer terminals
 
@@ -60,24 +60,18 @@ no_module limit ts k m s is =
     (λ least. let within = s.within in s.ended (omega arith) m is)
     (cases_lt k (length ts))
 
-same_terminal : {t u : Terminal} → ◌≡◌ {A = Option Terminal} (Some t) (Some u) → t ≡ u
-same_terminal h = cc
-
-some_same : {a b : Construct} → ◌≡◌ {A = Option Construct} (Some a) (Some b) → a ≡ b
-some_same h = cc
-
 one_construct : (limit : ℕ) (ts : List Terminal) (t : Terminal) (c d : Construct) → IsConstruct limit ts t c → IsConstruct limit ts t d → c ≡ d
-one_construct limit ts (Symbol b) c d e f = some_same (sym e ∙ f)
+one_construct limit ts (Symbol b) c d e f = same_some (sym e ∙ f)
 one_construct limit ts Reserved c d e f = e ∙ sym f
 one_construct limit ts (Name n) c d e f = e.0 ∙ sym f.0
 one_construct limit ts Number c d e f = e.0 ∙ sym f.0
-one_construct limit ts (Mark ModuleWord) c d e f = e.0 ∙ sym f.0
-one_construct limit ts (Mark _) c d e f = absurd e
+one_construct limit ts (Fixed ModuleWord) c d e f = e.0 ∙ sym f.0
+one_construct limit ts (Fixed _) c d e f = absurd e
 one_construct limit ts _ c d e f = absurd e
 
 one_construct_at : (limit : ℕ) (ts : List Terminal) (k : ℕ) (c d : Construct) → IsConstructAt limit ts k c → IsConstructAt limit ts k d → c ≡ d
 one_construct_at limit ts k c d (t, at, e) (u, there, f) =
-    one_construct limit (take k ts) t c d e (subst (λ (v : Terminal). IsConstruct limit (take k ts) v d) (same_terminal (sym there ∙ at)) f)
+    one_construct limit (take k ts) t c d e (subst (λ (v : Terminal). IsConstruct limit (take k ts) v d) (same_some (sym there ∙ at)) f)
 
 module _ (limit : ℕ) (ts : List Terminal) (tokens : TokenList) where
   same_place : (j k p q : ℕ) → Stops limit ts j → Stops limit ts k → p ≡ place_of tokens j → q ≡ place_of tokens k → p ≡ q
@@ -97,17 +91,11 @@ module _ (limit : ℕ) (ts : List Terminal) (tokens : TokenList) where
   one_fault (TooDeep p) (NotTaken q d) (j, e, s, u) (k, f, r, x, y) = absurd (x (subst (IsDeep ts) (one_place limit ts j k s r) u))
   one_fault (TooDeep p) (TooDeep q) (j, e, s, u) (k, f, r, x) = ap TooDeep (same_place j k p q s r e f)
   one_fault NoMemory g e f = absurd e
-  one_fault (Syntax p) NoMemory e f = absurd f
-  one_fault (NotTaken p c) NoMemory e f = absurd f
-  one_fault (TooDeep p) NoMemory e f = absurd f
+  one_fault _ NoMemory e f = absurd f
 
   pub no_fault : (f : ReadFault) (m : ModuleTree) → IsFault limit ts tokens f → IsModule limit m ts → ⊥
-  no_fault (Syntax p) m e is = no_module limit ts e.0 m e.2 is
-  no_fault (NotTaken p c) m e is = no_module limit ts e.0 m e.2 is
-  no_fault (TooDeep p) m e is = no_module limit ts e.0 m e.2 is
   no_fault NoMemory m e is = e
-
--- what the code answers
+  no_fault _ m e is = no_module limit ts e.0 m e.2 is
 
 -- why reading stops
 pub stop_is : (r : Result ModuleTree Stop) (rest ts : List Terminal) → Gives (λ m. m) rest r (module_at 256 ts) → IfErr r (λ e. e ≢ OutOfMemory → module_at 256 ts ≡ Err e)
@@ -127,7 +115,7 @@ deep_parts h = cc
 
 none_there : (w : Wanted) (o : Option Terminal) → None ≡ construct_behind w o → (t : Terminal) (d : Construct) → o ≡ Some t → construct_of w t ≡ Some d → ⊥
 none_there w None e t d i g = cc
-none_there w (Some u) e t d i g = let same : u ≡ t = same_terminal i in let h = ap (construct_of w) same in cc
+none_there w (Some u) e t d i g = let same : u ≡ t = same_some i in let h = ap (construct_of w) same in cc
 
 some_there : (w : Wanted) (o : Option Terminal) (d : Construct) → Some d ≡ construct_behind w o → (t : Terminal) × (o ≡ Some t) × (construct_of w t ≡ Some d)
 some_there w None d e = absurd (cc)

@@ -3,10 +3,10 @@ use Rattle.std.proofs.Common.{◌≡◌, ℕ, zero, suc, ◌+◌, ◌<◌, ◌�
 use Rattle.std.specs.Option.{is_some}
 use Rattle.std.proofs.lemmas.Bool.{both_ways, cases_Bool, cases_lt, false_from_ne_true, lt-ltb, le-ltb}
 use Rattle.bx_logic.specs.declared.op.Op.{Op}
-use Rattle.bx_logic.specs.declared.op.Op.TheVariants.{Buf, Not, And, Or, Nand, Nor, Xor, Xnor}
+use Rattle.bx_logic.specs.declared.op.Op.TheVariants.{Buf, Not}
 use Rattle.bx_syntax.specs.declared.terminal.Terminal.{Terminal}
-use Rattle.bx_syntax.specs.declared.terminal.Terminal.TheVariants.{Mark, Gate as GateWord, Name}
-use Rattle.bx_syntax.specs.declared.terminal.Mark.{Mark as Sign}
+use Rattle.bx_syntax.specs.declared.terminal.Terminal.TheVariants.{Fixed, GateWord, Name}
+use Rattle.bx_syntax.specs.declared.terminal.Mark.{Mark}
 use Rattle.bx_syntax.specs.declared.terminal.Mark.TheVariants.{Module as ModuleWord, EndModule, Input as InputWord, Output as OutputWord, Wire as WireWord, Open, Close, Comma, Semicolon, Equals, Tilde, Ampersand, Caret, TildeCaret, Bar}
 use Rattle.bx_syntax.specs.declared.stop.Stop.{Stop}
 use Rattle.bx_syntax.specs.declared.stop.Stop.TheVariants.{Deep}
@@ -18,17 +18,17 @@ use Rattle.bx_syntax.specs.declared.tree.Direction.TheVariants.{Input, Output}
 use Rattle.bx_syntax.specs.declared.tree.Port.{Port}
 use Rattle.bx_syntax.specs.declared.part.Kind.{Kind}
 use Rattle.bx_syntax.specs.declared.part.Kind.TheVariants.{Declaration, Wire, Assign, Gate}
-use Rattle.bx_syntax.specs.Trees.{Tree, net, bit, inverse, group, joined, Tail}
+use Rattle.bx_syntax.specs.Trees.{Tree, net, Tail}
 use Rattle.bx_syntax.specs.Parts.{PartTree, wire, ModuleTree}
 use Rattle.bx_syntax.specs.Expressions.{sign}
-use Rattle.bx_syntax.specs.ReadsExpressions.{Reader, ◌>>=◌, behind, operator_of, operator_at, linked, tail_within, tail_at, joined_at, level_at, inverse_with, group_with, primary_at, expr_at}
+use Rattle.bx_syntax.specs.ReadsExpressions.{Reader, ◌>>=◌, behind, operator_of, operator_at, link_at, tail_within, tail_at, joined_at, level_at, inverse_with, group_with, primary_at, expr_at}
 use Rattle.bx_syntax.specs.Repeats.{repeat_within, repeated, ahead_of}
-use Rattle.bx_syntax.specs.ReadsModules.{next_is, name_at, past, past_name, comma_next, comma_step, listed_at, is_net, comma_behind_net, kind_at, item_next, directed as directed_at, port_at, comma_port, port_next, ports_at, header_at, at_end, expression, wire_at, assign_at, many_at, name_and_expression, few_at, connections_at, gate_at, part_at, item_at, one_item, module_at}
+use Rattle.bx_syntax.specs.ReadsModules.{next_is, name_at, past, past_name, comma_next, comma_step, listed_at, is_net, comma_behind_net, kind_at, item_next, port_behind, port_at, comma_port, port_next, ports_at, header_at, at_end, expression, wire_at, assign_at, many_at, name_and_expression, few_at, connections_at, driven_at, gate_at, part_at, item_at, one_item, module_at}
 use Rattle.bx_syntax.proofs.ReadsExpressions.{Ends, again, bind_ok, ok_is, operator_is, shrinks, Shrinks}
 use Rattle.bx_syntax.proofs.Repeats.{Repeats}
 use Rattle.bx_syntax.proofs.ReadsModules.{expression_reads, part_repeats, items_repeat, ports_repeat, names_repeat}
 use Rattle.bx_syntax.proofs.ModuleSteps.{expressions_repeat}
-use Rattle.bx_syntax.proofs.Stacks.{Symbol, mark, maybe_wire, name, header, in_header, plain_ports, directed_ports, port, items, parts, driver, primary, operators, arguments, few, behind_name, start, Stack, connections, part, item, at_comma, reply, nests, stopped, Agrees, run, Leads, from_here, chain, mark_leads, name_leads, label_passed, wire_passed, mark_front, comma_taken, comma_settles}
+use Rattle.bx_syntax.proofs.Stacks.{Symbol, mark, maybe_wire, name, header, in_header, plain_ports, directed_ports, port, items, parts, driver, primary, operators, arguments, few, behind_name, label, start, Stack, connections, part, item, at_comma, reply, nests, stopped, Agrees, run, Leads, from_here, chain, mark_leads, name_leads, label_passed, wire_passed, mark_front, comma_taken, comma_settles}
 
 abbrev Rest : Type 0 → Type 0
 Rest A = A × List Terminal
@@ -87,11 +87,11 @@ module _ (limit : ℕ) where
     abbrev coming : Symbol → Stack → Unit {0} → List Terminal → Stack
     coming y rest s ts = cond (comma_next s ts) (x ∷ y ∷ rest) (y ∷ rest)
 
-    comma_leads : (y : Symbol) (rest : Stack) (s : Unit {0}) (ts us : List Terminal) → ts ≡ Mark Comma ∷ us →
+    comma_leads : (y : Symbol) (rest : Stack) (s : Unit {0}) (ts us : List Terminal) → ts ≡ Fixed Comma ∷ us →
         Leads limit (λ (r : Rest (A × Unit {0})). r.1) (coming y rest s ts) (λ r. coming y rest r.0.1 r.1) ts (comma_step p s ts)
     comma_leads y rest s ts us e =
         subst (λ (vs : List Terminal). Leads limit (λ (r : Rest (A × Unit {0})). r.1) (coming y rest s vs) (λ r. coming y rest r.0.1 r.1) vs (comma_step p s vs)) (sym e)
-        (from_here limit (λ (r : Rest (A × Unit {0})). r.1) (x ∷ y ∷ rest) (P (x ∷ y ∷ rest)) (λ r. coming y rest r.0.1 r.1) (Mark Comma ∷ us) us (comma_step p s (Mark Comma ∷ us))
+        (from_here limit (λ (r : Rest (A × Unit {0})). r.1) (x ∷ y ∷ rest) (P (x ∷ y ∷ rest)) (λ r. coming y rest r.0.1 r.1) (Fixed Comma ∷ us) us (comma_step p s (Fixed Comma ∷ us))
         (comma_taken limit x more (y ∷ rest) us waits ∙ ap (λ stack. run limit stack us) (joins (y ∷ rest)))
         (chain limit (λ (r : Rest A). r.1) (λ (r : Rest (A × Unit {0})). r.1) (P (x ∷ y ∷ rest)) (λ _. x ∷ y ∷ rest) (λ r. coming y rest r.0.1 r.1) us (p us) _ (element x (y ∷ rest) us)
         (λ r _. comma_settles limit x more y rest r.1 waits)))
@@ -127,11 +127,11 @@ ends_empty k = record { none = λ j lt. refl }
 abbrev EndsAt : ℕ → Reader Tree → Type 0
 EndsAt k p = (ts : List Terminal) (x : Rest Tree) → p ts ≡ Ok x → Ends k x.1
 
-linked_ends : (p : Reader Tree) (more : Reader Tail) (k n : ℕ) → Shrinks p → EndsAt k p →
+link_at_ends : (p : Reader Tree) (more : Reader Tail) (k n : ℕ) → Shrinks p → EndsAt k p →
     ((ts : List Terminal) (x : Rest Tail) → Ends k ts → length ts ≤ n → more ts ≡ Ok x → Ends (suc k) x.1) →
-    (o : Option Operator) (ts : List Terminal) (x : Rest Tail) → operator_at k ts ≡ o → Ends k ts → length ts ≤ suc n → linked p more o ts ≡ Ok x → Ends (suc k) x.1
-linked_ends p more k n less f again None ts x same h room e = subst (λ (y : Rest Tail). Ends (suc k) y.1) (ok_is e) (no_operator_more k ts h same)
-linked_ends p more k n less f again (Some o) ts x same h room e =
+    (o : Option Operator) (ts : List Terminal) (x : Rest Tail) → operator_at k ts ≡ o → Ends k ts → length ts ≤ suc n → link_at p more o ts ≡ Ok x → Ends (suc k) x.1
+link_at_ends p more k n less f again None ts x same h room e = subst (λ (y : Rest Tail). Ends (suc k) y.1) (ok_is e) (no_operator_more k ts h same)
+link_at_ends p more k n less f again (Some o) ts x same h room e =
     let a = bind_ok {o = p (drop 1 ts)} e in
     let b = bind_ok {o = more a.0.1} a.2 in
     let shorter = less.less (drop 1 ts) a.0 a.1 in
@@ -141,7 +141,7 @@ tail_ends_at : (p : Reader Tree) (k n : ℕ) → Shrinks p → EndsAt k p → (t
 unfolding tail_within
 tail_ends_at p k zero less f [] x h room e = subst (λ (y : Rest Tail). Ends (suc k) y.1) (ok_is e) (ends_empty (suc k))
 tail_ends_at p k zero less f (t ∷ ts) x h room e = absurd (omega arith)
-tail_ends_at p k (suc n) less f ts x h room e = linked_ends p (tail_within p k n) k n less f (tail_ends_at p k n less f) (operator_at k ts) ts x refl h room e
+tail_ends_at p k (suc n) less f ts x h room e = link_at_ends p (tail_within p k n) k n less f (tail_ends_at p k n less f) (operator_at k ts) ts x refl h room e
 
 joined_ends : (p : Reader Tree) (k : ℕ) → Shrinks p → EndsAt k p → EndsAt (suc k) (joined_at p k)
 unfolding joined_at tail_at
@@ -157,10 +157,10 @@ level_ends d (suc k) ts x e = joined_ends (level_at (primary_at d) k) k (shrinks
 
 module _ (limit : ℕ) where
   -- where no operator stands at the front, none is waited for
-  no_mark : (n : ℕ) (x : Symbol) (rest : Stack) (s : Sign) (ts : List Terminal) → operator_of s ≡ None → run limit (operators n ∷ x ∷ rest) (Mark s ∷ ts) ≡ run limit (x ∷ rest) (Mark s ∷ ts)
+  no_mark : (n : ℕ) (x : Symbol) (rest : Stack) (s : Mark) (ts : List Terminal) → operator_of s ≡ None → run limit (operators n ∷ x ∷ rest) (Fixed s ∷ ts) ≡ run limit (x ∷ rest) (Fixed s ∷ ts)
   no_mark n x rest s ts e = rw e refl
 
-  has_none : (s : Sign) (ts : List Terminal) → Ends 3 (Mark s ∷ ts) → operator_of s ≡ None
+  has_none : (s : Mark) (ts : List Terminal) → Ends 3 (Fixed s ∷ ts) → operator_of s ≡ None
   has_none Ampersand ts h = absurd (let e = h.none 0 (omega arith) in cc)
   has_none Caret ts h = absurd (let e = h.none 1 (omega arith) in cc)
   has_none TildeCaret ts h = absurd (let e = h.none 1 (omega arith) in cc)
@@ -169,26 +169,24 @@ module _ (limit : ℕ) where
 
   pub operators_passed : (n : ℕ) (x : Symbol) (rest : Stack) (ts : List Terminal) → Ends 3 ts → run limit (operators n ∷ x ∷ rest) ts ≡ run limit (x ∷ rest) ts
   operators_passed n x rest [] h = refl
-  operators_passed n x rest (Mark s ∷ ts) h = no_mark n x rest s ts (has_none s ts h)
+  operators_passed n x rest (Fixed s ∷ ts) h = no_mark n x rest s ts (has_none s ts h)
   operators_passed n x rest (_ ∷ ts) h = refl
 
   operator_taken : (n : ℕ) (rest : Stack) (o : Operator) (ts : List Terminal) → run limit (operators n ∷ rest) (sign o ∷ ts) ≡ run limit (primary n ∷ operators n ∷ rest) ts
   operator_taken n rest AndSign ts = refl
-  operator_taken n rest XorSign ts = refl
-  operator_taken n rest XnorSign ts = refl
-  operator_taken n rest OrSign ts = refl
+  operator_taken n rest _ ts = refl
 
   -- a reader of operands of a level
   abbrev Operand : ℕ → Reader Tree → Type 0
   Operand n p = (rest : Stack) (ts : List Terminal) → Leads limit (λ (x : Rest Tree). x.1) (primary n ∷ operators n ∷ rest) (λ _. operators n ∷ rest) ts (p ts)
 
-  linked_leads : (n k : ℕ) (p : Reader Tree) (more : Reader Tail) → Operand n p → (rest : Stack) →
+  link_at_leads : (n k : ℕ) (p : Reader Tree) (more : Reader Tail) → Operand n p → (rest : Stack) →
       ((ts : List Terminal) → Leads limit (λ (x : Rest Tail). x.1) (operators n ∷ rest) (λ _. operators n ∷ rest) ts (more ts)) →
-      (o : Option Operator) (ts : List Terminal) → operator_at k ts ≡ o → Leads limit (λ (x : Rest Tail). x.1) (operators n ∷ rest) (λ _. operators n ∷ rest) ts (linked p more o ts)
-  linked_leads n k p more f rest g None ts e = refl
-  linked_leads n k p more f rest g (Some o) ts e =
+      (o : Option Operator) (ts : List Terminal) → operator_at k ts ≡ o → Leads limit (λ (x : Rest Tail). x.1) (operators n ∷ rest) (λ _. operators n ∷ rest) ts (link_at p more o ts)
+  link_at_leads n k p more f rest g None ts e = refl
+  link_at_leads n k p more f rest g (Some o) ts e =
       let front = (operator_is k ts o e).0 in
-      from_here limit (λ (x : Rest Tail). x.1) (operators n ∷ rest) (primary n ∷ operators n ∷ rest) (λ _. operators n ∷ rest) ts (drop 1 ts) (linked p more (Some o) ts)
+      from_here limit (λ (x : Rest Tail). x.1) (operators n ∷ rest) (primary n ∷ operators n ∷ rest) (λ _. operators n ∷ rest) ts (drop 1 ts) (link_at p more (Some o) ts)
       (ap (run limit (operators n ∷ rest)) front ∙ operator_taken n rest o (drop 1 ts))
       (chain limit (λ (x : Rest Tree). x.1) (λ (x : Rest Tail). x.1) (primary n ∷ operators n ∷ rest) (λ _. operators n ∷ rest) (λ _. operators n ∷ rest) (drop 1 ts) (p (drop 1 ts)) _ (f rest (drop 1 ts))
       (λ x _. chain limit (λ (y : Rest Tail). y.1) (λ (y : Rest Tail). y.1) (operators n ∷ rest) (λ _. operators n ∷ rest) (λ _. operators n ∷ rest) x.1 (more x.1) _ (g x.1) (λ y _. refl)))
@@ -196,7 +194,7 @@ module _ (limit : ℕ) where
   tail_leads : (n k m : ℕ) (p : Reader Tree) → Operand n p → (rest : Stack) (ts : List Terminal) → Leads limit (λ (x : Rest Tail). x.1) (operators n ∷ rest) (λ _. operators n ∷ rest) ts (tail_within p k m ts)
   unfolding tail_within
   tail_leads n k zero p f rest ts = refl
-  tail_leads n k (suc m) p f rest ts = linked_leads n k p (tail_within p k m) f rest (tail_leads n k m p f rest) (operator_at k ts) ts refl
+  tail_leads n k (suc m) p f rest ts = link_at_leads n k p (tail_within p k m) f rest (tail_leads n k m p f rest) (operator_at k ts) ts refl
 
   joined_leads : (n k : ℕ) (p : Reader Tree) → Operand n p → Operand n (joined_at p k)
   unfolding joined_at tail_at
@@ -226,16 +224,16 @@ module _ (limit : ℕ) where
     settled (Ok r) e h = h ∙ operators_passed n x rest r.1 (level_ends d 3 ts r e)
     settled (Err w) e h = h
 
-  inverse_leads : (n d : ℕ) → Primary_ (suc n) (primary_at d) → n < limit → (rest : Stack) (ts : List Terminal) → Leads limit (λ (r : Rest Tree). r.1) (primary n ∷ rest) (λ _. rest) (Mark Tilde ∷ ts) (inverse_with (primary_at d) ts)
+  inverse_leads : (n d : ℕ) → Primary_ (suc n) (primary_at d) → n < limit → (rest : Stack) (ts : List Terminal) → Leads limit (λ (r : Rest Tree). r.1) (primary n ∷ rest) (λ _. rest) (Fixed Tilde ∷ ts) (inverse_with (primary_at d) ts)
   inverse_leads n d f h rest ts =
-      from_here limit (λ (r : Rest Tree). r.1) (primary n ∷ rest) (primary (suc n) ∷ rest) (λ _. rest) (Mark Tilde ∷ ts) ts (inverse_with (primary_at d) ts)
-      (nests_here n (primary (suc n) ∷ []) rest (Mark Tilde) ts refl h)
+      from_here limit (λ (r : Rest Tree). r.1) (primary n ∷ rest) (primary (suc n) ∷ rest) (λ _. rest) (Fixed Tilde ∷ ts) ts (inverse_with (primary_at d) ts)
+      (nests_here n (primary (suc n) ∷ []) rest (Fixed Tilde) ts refl h)
       (chain limit (λ (r : Rest Tree). r.1) (λ (r : Rest Tree). r.1) (primary (suc n) ∷ rest) (λ _. rest) (λ _. rest) ts (primary_at d ts) _ (f rest ts) (λ x _. refl))
 
-  group_leads : (n d : ℕ) → Primary_ (suc n) (primary_at d) → n < limit → (rest : Stack) (ts : List Terminal) → Leads limit (λ (r : Rest Tree). r.1) (primary n ∷ rest) (λ _. rest) (Mark Open ∷ ts) (group_with (expr_at d) ts)
+  group_leads : (n d : ℕ) → Primary_ (suc n) (primary_at d) → n < limit → (rest : Stack) (ts : List Terminal) → Leads limit (λ (r : Rest Tree). r.1) (primary n ∷ rest) (λ _. rest) (Fixed Open ∷ ts) (group_with (expr_at d) ts)
   group_leads n d f h rest ts =
-      from_here limit (λ (r : Rest Tree). r.1) (primary n ∷ rest) (primary (suc n) ∷ operators (suc n) ∷ mark Close ∷ rest) (λ _. rest) (Mark Open ∷ ts) ts (group_with (expr_at d) ts)
-      (nests_here n (primary (suc n) ∷ operators (suc n) ∷ mark Close ∷ []) rest (Mark Open) ts refl h)
+      from_here limit (λ (r : Rest Tree). r.1) (primary n ∷ rest) (primary (suc n) ∷ operators (suc n) ∷ mark Close ∷ rest) (λ _. rest) (Fixed Open ∷ ts) ts (group_with (expr_at d) ts)
+      (nests_here n (primary (suc n) ∷ operators (suc n) ∷ mark Close ∷ []) rest (Fixed Open) ts refl h)
       (chain limit (λ (r : Rest Tree). r.1) (λ (r : Rest Tree). r.1) (primary (suc n) ∷ operators (suc n) ∷ mark Close ∷ rest) (λ _. mark Close ∷ rest) (λ _. rest) ts (expr_at d ts) _
       (expression_leads (suc n) d f (mark Close) rest ts)
       (λ x _. chain limit (λ us. us) (λ (r : Rest Tree). r.1) (mark Close ∷ rest) (λ _. rest) (λ _. rest) x.1 (behind Close x.1) _ (mark_leads limit Close rest x.1) (λ us _. refl)))
@@ -243,30 +241,19 @@ module _ (limit : ℕ) where
   pub primary_leads : (d n : ℕ) → n + d ≡ limit → Primary_ n (primary_at d)
   unfolding primary_at
   primary_leads zero n e rest [] = (Primary, refl)
-  primary_leads zero n e rest (Mark Tilde ∷ ts) = subst (Agrees (Deep (suc (length ts)))) (sym (nests_no_more n (primary (suc n) ∷ []) rest (Mark Tilde) ts refl (omega arith))) refl
-  primary_leads zero n e rest (Mark Open ∷ ts) = subst (Agrees (Deep (suc (length ts)))) (sym (nests_no_more n (primary (suc n) ∷ operators (suc n) ∷ mark Close ∷ []) rest (Mark Open) ts refl (omega arith))) refl
-  primary_leads zero n e rest (Mark _ ∷ ts) = refl
+  primary_leads zero n e rest (Fixed Tilde ∷ ts) = subst (Agrees (Deep (suc (length ts)))) (sym (nests_no_more n (primary (suc n) ∷ []) rest (Fixed Tilde) ts refl (omega arith))) refl
+  primary_leads zero n e rest (Fixed Open ∷ ts) = subst (Agrees (Deep (suc (length ts)))) (sym (nests_no_more n (primary (suc n) ∷ operators (suc n) ∷ mark Close ∷ []) rest (Fixed Open) ts refl (omega arith))) refl
   primary_leads zero n e rest (_ ∷ ts) = refl
   primary_leads (suc d) n e rest [] = (Primary, refl)
-  primary_leads (suc d) n e rest (Mark Tilde ∷ ts) = inverse_leads n d (primary_leads d (suc n) (omega arith)) (omega arith) rest ts
-  primary_leads (suc d) n e rest (Mark Open ∷ ts) = group_leads n d (primary_leads d (suc n) (omega arith)) (omega arith) rest ts
-  primary_leads (suc d) n e rest (Mark _ ∷ ts) = refl
+  primary_leads (suc d) n e rest (Fixed Tilde ∷ ts) = inverse_leads n d (primary_leads d (suc n) (omega arith)) (omega arith) rest ts
+  primary_leads (suc d) n e rest (Fixed Open ∷ ts) = group_leads n d (primary_leads d (suc n) (omega arith)) (omega arith) rest ts
   primary_leads (suc d) n e rest (_ ∷ ts) = refl
 
 -- items
 
 pub part-append : (kind : Kind) (xs ys : Stack) → part kind xs ++ ys ≡ part kind (xs ++ ys)
-part-append (Declaration d) xs ys = refl
-part-append Wire xs ys = refl
-part-append Assign xs ys = refl
 part-append (Gate Buf) xs ys = refl
-part-append (Gate Not) xs ys = refl
-part-append (Gate And) xs ys = refl
-part-append (Gate Or) xs ys = refl
-part-append (Gate Nand) xs ys = refl
-part-append (Gate Nor) xs ys = refl
-part-append (Gate Xor) xs ys = refl
-part-append (Gate Xnor) xs ys = refl
+part-append _ xs ys = refl
 
 -- a name with a comma behind it
 abbrev is_bare : List Terminal → Bool
@@ -282,10 +269,7 @@ bare_net : (limit : ℕ) (t : Tree) (ts rest : List Terminal) → expression lim
 bare_net limit (net n) ts rest e h =
     let both = and_both (next_is Comma rest) true h in
     ap is_bare (expression_reads limit ts (net n, rest) e).2 ∙ both.0
-bare_net limit (bit b) ts rest e h = absurd (both_ways false refl (and_both (next_is Comma rest) false h).1)
-bare_net limit (inverse t) ts rest e h = absurd (both_ways false refl (and_both (next_is Comma rest) false h).1)
-bare_net limit (group t) ts rest e h = absurd (both_ways false refl (and_both (next_is Comma rest) false h).1)
-bare_net limit (joined t o u us) ts rest e h = absurd (both_ways false refl (and_both (next_is Comma rest) false h).1)
+bare_net limit _ ts rest e h = absurd (both_ways false refl (and_both (next_is Comma rest) false h).1)
 
 module _ (limit : ℕ) where
   pub expression_at : (x : Symbol) (rest : Stack) (ts : List Terminal) → Leads limit (λ (r : Rest Tree). r.1) (primary 0 ∷ operators 0 ∷ x ∷ rest) (λ _. x ∷ rest) ts (expression limit ts)
@@ -295,17 +279,15 @@ module _ (limit : ℕ) where
   -- wires and assignments
 
   driver_passed : (x : Symbol) (rest : Stack) (ts : List Terminal) → next_is Equals ts ≡ false → run limit (driver ∷ x ∷ rest) ts ≡ run limit (x ∷ rest) ts
-  driver_passed x rest [] e = refl
-  driver_passed x rest (Mark Equals ∷ ts) e = absurd (both_ways true e refl)
-  driver_passed x rest (Mark _ ∷ ts) e = refl
-  driver_passed x rest (_ ∷ ts) e = refl
+  driver_passed x rest (Fixed Equals ∷ ts) e = absurd (both_ways true e refl)
+  driver_passed x rest _ e = refl
 
-  driver_leads : (n : List ℕ) (x : Symbol) (rest : Stack) (ts us : List Terminal) → ts ≡ Mark Equals ∷ us →
+  driver_leads : (n : List ℕ) (x : Symbol) (rest : Stack) (ts us : List Terminal) → ts ≡ Fixed Equals ∷ us →
       Leads limit (λ (r : Rest PartTree). r.1) (driver ∷ x ∷ rest) (λ _. x ∷ rest) ts (behind Equals ts >>= λ r. expression limit r >>= λ (e : Rest Tree). let w : Rest PartTree = (wire n (Some e.0), e.1) in Ok w)
   driver_leads n x rest ts us e =
       subst (λ (vs : List Terminal). Leads limit (λ (r : Rest PartTree). r.1) (driver ∷ x ∷ rest) (λ _. x ∷ rest) vs (behind Equals vs >>= λ r. expression limit r >>= λ (e : Rest Tree). let w : Rest PartTree = (wire n (Some e.0), e.1) in Ok w)) (sym e)
-      (chain limit (λ (r : Rest Tree). r.1) (λ (r : Rest PartTree). r.1) (driver ∷ x ∷ rest) (λ _. x ∷ rest) (λ _. x ∷ rest) (Mark Equals ∷ us) (expression limit us) _
-      (from_here limit (λ (r : Rest Tree). r.1) (driver ∷ x ∷ rest) (primary 0 ∷ operators 0 ∷ x ∷ rest) (λ _. x ∷ rest) (Mark Equals ∷ us) us (expression limit us) refl (expression_at x rest us))
+      (chain limit (λ (r : Rest Tree). r.1) (λ (r : Rest PartTree). r.1) (driver ∷ x ∷ rest) (λ _. x ∷ rest) (λ _. x ∷ rest) (Fixed Equals ∷ us) (expression limit us) _
+      (from_here limit (λ (r : Rest Tree). r.1) (driver ∷ x ∷ rest) (primary 0 ∷ operators 0 ∷ x ∷ rest) (λ _. x ∷ rest) (Fixed Equals ∷ us) us (expression limit us) refl (expression_at x rest us))
       (λ r _. refl))
 
   wire_leads : (x : Symbol) (rest : Stack) (ts : List Terminal) → Leads limit (λ (r : Rest PartTree). r.1) (name ∷ driver ∷ x ∷ rest) (λ _. x ∷ rest) ts (wire_at limit ts)
@@ -333,15 +315,9 @@ module _ (limit : ℕ) where
       (λ r _. refl)
 
   few_is_primary : (x : Symbol) (rest : Stack) (ts : List Terminal) → is_bare ts ≡ false → run limit (few ∷ x ∷ rest) ts ≡ run limit (primary 0 ∷ operators 0 ∷ x ∷ rest) ts
-  few_is_primary x rest [] e = refl
-  few_is_primary x rest (Name n ∷ []) e = refl
-  few_is_primary x rest (Name n ∷ Mark Comma ∷ ts) e = absurd (both_ways true e refl)
-  few_is_primary x rest (Name n ∷ Mark _ ∷ ts) e = refl
-  few_is_primary x rest (Name n ∷ _ ∷ ts) e = refl
-  few_is_primary x rest (Mark Tilde ∷ ts) e = refl
-  few_is_primary x rest (Mark Open ∷ ts) e = refl
-  few_is_primary x rest (Mark _ ∷ ts) e = refl
-  few_is_primary x rest (_ ∷ ts) e = refl
+  few_is_primary x rest (Name n ∷ Fixed Comma ∷ ts) e = absurd (both_ways true e refl)
+  few_is_primary x rest (Fixed Tilde ∷ ts) e = refl
+  few_is_primary x rest _ e = refl
 
   -- what comes behind an expression among the names of a `buf` or `not`
   abbrev names_from : Symbol → Stack → Tree → List Terminal → Stack
@@ -349,14 +325,10 @@ module _ (limit : ℕ) where
 
   bare_leads : (x : Symbol) (rest : Stack) (ts : List Terminal) → is_bare ts ≡ true → Leads limit (λ (r : Rest Tree). r.1) (few ∷ x ∷ rest) (λ r. names_from x rest r.0 r.1) ts (expression limit ts)
   unfolding expression
-  bare_leads x rest [] e = absurd (both_ways false refl e)
-  bare_leads x rest (Name n ∷ []) e = absurd (both_ways false refl e)
-  bare_leads x rest (Name n ∷ Mark Comma ∷ ts) e =
-      subst (λ (o : Result (Rest Tree) Stop). Leads limit (λ (r : Rest Tree). r.1) (few ∷ x ∷ rest) (λ r. names_from x rest r.0 r.1) (Name n ∷ Mark Comma ∷ ts) o)
-      (sym (again (net n) limit 3 (Mark Comma ∷ ts) tt (omega arith) (record { none = λ j lt. refl }))) refl
-  bare_leads x rest (Name n ∷ Mark _ ∷ ts) e = absurd (both_ways false refl e)
-  bare_leads x rest (Name n ∷ _ ∷ ts) e = absurd (both_ways false refl e)
-  bare_leads x rest (_ ∷ ts) e = absurd (both_ways false refl e)
+  bare_leads x rest (Name n ∷ Fixed Comma ∷ ts) e =
+      subst (λ (o : Result (Rest Tree) Stop). Leads limit (λ (r : Rest Tree). r.1) (few ∷ x ∷ rest) (λ r. names_from x rest r.0 r.1) (Name n ∷ Fixed Comma ∷ ts) o)
+      (sym (again (net n) limit 3 (Fixed Comma ∷ ts) tt (omega arith) (record { none = λ j lt. refl }))) refl
+  bare_leads x rest _ e = absurd (both_ways false refl e)
 
   few_expression : (x : Symbol) (rest : Stack) (ts : List Terminal) → Leads limit (λ (r : Rest Tree). r.1) (few ∷ x ∷ rest) (λ r. names_from x rest r.0 r.1) ts (expression limit ts)
   few_expression x rest ts = ⊎_elim (λ yes. bare_leads x rest ts yes) (λ other. plain other (expression limit ts) refl (expression_at x rest ts)) (cases_Bool (is_bare ts)) where
@@ -367,14 +339,14 @@ module _ (limit : ℕ) where
         ∙ ap (λ b. run limit (cond b (behind_name ∷ x ∷ rest) (x ∷ rest)) r.1) (sym (false_from_ne_true (comma_behind_net r.0 r.1) (λ comma. both_ways (is_bare ts) other (bare_net limit r.0 ts r.1 e comma))))
     plain other (Err w) e h = subst (Agrees w) (sym (few_is_primary x rest ts other)) h
 
-  name_leads_on : (x : Symbol) (rest : Stack) (t : Tree) (ts us : List Terminal) → comma_behind_net t ts ≡ true → ts ≡ Mark Comma ∷ us →
+  name_leads_on : (x : Symbol) (rest : Stack) (t : Tree) (ts us : List Terminal) → comma_behind_net t ts ≡ true → ts ≡ Fixed Comma ∷ us →
       Leads limit (λ (r : Rest (List ℕ × Tree)). r.1) (names_from x rest t ts) (λ r. names_from x rest r.0.1 r.1) ts (name_and_expression limit t ts)
   name_leads_on x rest t ts us goes e =
       from_here limit (λ (r : Rest (List ℕ × Tree)). r.1) (names_from x rest t ts) (behind_name ∷ x ∷ rest) (λ r. names_from x rest r.0.1 r.1) ts ts (name_and_expression limit t ts)
       (ap (λ b. run limit (cond b (behind_name ∷ x ∷ rest) (x ∷ rest)) ts) goes)
       (subst (λ (vs : List Terminal). Leads limit (λ (r : Rest (List ℕ × Tree)). r.1) (behind_name ∷ x ∷ rest) (λ r. names_from x rest r.0.1 r.1) vs (name_and_expression limit t vs)) (sym e)
-      (chain limit (λ (r : Rest Tree). r.1) (λ (r : Rest (List ℕ × Tree)). r.1) (behind_name ∷ x ∷ rest) (λ r. names_from x rest r.0 r.1) (λ r. names_from x rest r.0.1 r.1) (Mark Comma ∷ us) (expression limit us) _
-      (from_here limit (λ (r : Rest Tree). r.1) (behind_name ∷ x ∷ rest) (few ∷ x ∷ rest) (λ r. names_from x rest r.0 r.1) (Mark Comma ∷ us) us (expression limit us) refl (few_expression x rest us))
+      (chain limit (λ (r : Rest Tree). r.1) (λ (r : Rest (List ℕ × Tree)). r.1) (behind_name ∷ x ∷ rest) (λ r. names_from x rest r.0 r.1) (λ r. names_from x rest r.0.1 r.1) (Fixed Comma ∷ us) (expression limit us) _
+      (from_here limit (λ (r : Rest Tree). r.1) (behind_name ∷ x ∷ rest) (few ∷ x ∷ rest) (λ r. names_from x rest r.0 r.1) (Fixed Comma ∷ us) us (expression limit us) refl (few_expression x rest us))
       (λ r _. refl)))
 
   few_leads : (op : Op) (n : List ℕ) (x : Symbol) (rest : Stack) (ts : List Terminal) → Leads limit (λ (r : Rest PartTree). r.1) (few ∷ x ∷ rest) (λ _. x ∷ rest) ts (few_at limit op n ts)
@@ -393,23 +365,22 @@ module _ (limit : ℕ) where
   connections_lead : (op : Op) (n : List ℕ) (x : Symbol) (rest : Stack) (ts : List Terminal) → Leads limit (λ (r : Rest PartTree). r.1) (connections op (x ∷ rest)) (λ _. x ∷ rest) ts (connections_at limit op n ts)
   connections_lead Buf n x rest ts = few_leads Buf n x rest ts
   connections_lead Not n x rest ts = few_leads Not n x rest ts
-  connections_lead And n x rest ts = many_leads And n x rest ts
-  connections_lead Or n x rest ts = many_leads Or n x rest ts
-  connections_lead Nand n x rest ts = many_leads Nand n x rest ts
-  connections_lead Nor n x rest ts = many_leads Nor n x rest ts
-  connections_lead Xor n x rest ts = many_leads Xor n x rest ts
-  connections_lead Xnor n x rest ts = many_leads Xnor n x rest ts
+  connections_lead op n x rest ts = many_leads op n x rest ts
+
+  driven_leads : (rest : Stack) (ts : List Terminal) → Leads limit (λ (n : Rest (List ℕ)). n.1) (label ∷ mark Open ∷ name ∷ mark Comma ∷ rest) (λ _. rest) ts (driven_at ts)
+  driven_leads rest ts =
+      from_here limit (λ (n : Rest (List ℕ)). n.1) (label ∷ mark Open ∷ name ∷ mark Comma ∷ rest) (mark Open ∷ name ∷ mark Comma ∷ rest) (λ _. rest) ts (past_name ts) _ (label_passed limit (mark Open) (name ∷ mark Comma ∷ rest) ts)
+      (chain limit (λ us. us) (λ (n : Rest (List ℕ)). n.1) (mark Open ∷ name ∷ mark Comma ∷ rest) (λ _. name ∷ mark Comma ∷ rest) (λ _. rest) (past_name ts) (behind Open (past_name ts)) _ (mark_leads limit Open (name ∷ mark Comma ∷ rest) (past_name ts))
+      (λ a _. chain limit (λ (n : Rest (List ℕ)). n.1) (λ (n : Rest (List ℕ)). n.1) (name ∷ mark Comma ∷ rest) (λ _. mark Comma ∷ rest) (λ _. rest) a (name_at a) _ (name_leads limit (mark Comma ∷ rest) a)
+      (λ n _. chain limit (λ us. us) (λ (n : Rest (List ℕ)). n.1) (mark Comma ∷ rest) (λ _. rest) (λ _. rest) n.1 (behind Comma n.1) _ (mark_leads limit Comma rest n.1) (λ b _. refl))))
 
   gate_leads : (op : Op) (x : Symbol) (rest : Stack) (ts : List Terminal) → Leads limit (λ (r : Rest PartTree). r.1) (part (Gate op) (x ∷ rest)) (λ _. x ∷ rest) ts (gate_at limit op ts)
   unfolding gate_at
   gate_leads op x rest ts =
       let last : Stack = mark Close ∷ x ∷ rest in
-      from_here limit (λ (r : Rest PartTree). r.1) (part (Gate op) (x ∷ rest)) (mark Open ∷ name ∷ mark Comma ∷ connections op last) (λ _. x ∷ rest) ts (past_name ts) _ (label_passed limit (mark Open) (name ∷ mark Comma ∷ connections op last) ts)
-      (chain limit (λ us. us) (λ (r : Rest PartTree). r.1) (mark Open ∷ name ∷ mark Comma ∷ connections op last) (λ _. name ∷ mark Comma ∷ connections op last) (λ _. x ∷ rest) (past_name ts) (behind Open (past_name ts)) _ (mark_leads limit Open (name ∷ mark Comma ∷ connections op last) (past_name ts))
-      (λ a _. chain limit (λ (n : Rest (List ℕ)). n.1) (λ (r : Rest PartTree). r.1) (name ∷ mark Comma ∷ connections op last) (λ _. mark Comma ∷ connections op last) (λ _. x ∷ rest) a (name_at a) _ (name_leads limit (mark Comma ∷ connections op last) a)
-      (λ n _. chain limit (λ us. us) (λ (r : Rest PartTree). r.1) (mark Comma ∷ connections op last) (λ _. connections op last) (λ _. x ∷ rest) n.1 (behind Comma n.1) _ (mark_leads limit Comma (connections op last) n.1)
-      (λ b _. chain limit (λ (r : Rest PartTree). r.1) (λ (r : Rest PartTree). r.1) (connections op last) (λ _. last) (λ _. x ∷ rest) b (connections_at limit op n.0 b) _ (connections_lead op n.0 (mark Close) (x ∷ rest) b)
-      (λ c _. chain limit (λ us. us) (λ (r : Rest PartTree). r.1) last (λ _. x ∷ rest) (λ _. x ∷ rest) c.1 (behind Close c.1) _ (mark_leads limit Close (x ∷ rest) c.1) (λ d _. refl))))))
+      chain limit (λ (n : Rest (List ℕ)). n.1) (λ (r : Rest PartTree). r.1) (part (Gate op) (x ∷ rest)) (λ _. connections op last) (λ _. x ∷ rest) ts (driven_at ts) _ (driven_leads (connections op last) ts)
+      (λ n _. chain limit (λ (r : Rest PartTree). r.1) (λ (r : Rest PartTree). r.1) (connections op last) (λ _. last) (λ _. x ∷ rest) n.1 (connections_at limit op n.0 n.1) _ (connections_lead op n.0 (mark Close) (x ∷ rest) n.1)
+      (λ c _. chain limit (λ us. us) (λ (r : Rest PartTree). r.1) last (λ _. x ∷ rest) (λ _. x ∷ rest) c.1 (behind Close c.1) _ (mark_leads limit Close (x ∷ rest) c.1) (λ d _. refl)))
 
   part_leads : (kind : Kind) (x : Symbol) (rest : Stack) (ts : List Terminal) → Leads limit (λ (r : Rest PartTree). r.1) (part kind (x ∷ rest)) (λ _. x ∷ rest) ts (part_at limit kind ts)
   part_leads (Declaration d) x rest ts =
@@ -421,10 +392,9 @@ module _ (limit : ℕ) where
   kind_leads : (rest : Stack) (ts : List Terminal) → item_next tt ts ≡ true → Leads limit (λ (k : Rest Kind). k.1) (items ∷ rest) (λ k. item k.0 rest) ts (kind_at ts)
   kind_leads rest [] e = absurd (both_ways false refl e)
   kind_leads rest (GateWord op ∷ ts) e = ap (λ stack. run limit stack ts) (part-append (Gate op) (parts (Gate op) ∷ mark Semicolon ∷ items ∷ []) rest)
-  kind_leads rest (Mark EndModule ∷ ts) e = absurd (both_ways false refl e)
-  kind_leads rest (Mark InputWord ∷ ts) e = wire_passed limit name (parts (Declaration Input) ∷ mark Semicolon ∷ items ∷ rest) ts
-  kind_leads rest (Mark OutputWord ∷ ts) e = wire_passed limit name (parts (Declaration Output) ∷ mark Semicolon ∷ items ∷ rest) ts
-  kind_leads rest (Mark _ ∷ ts) e = refl
+  kind_leads rest (Fixed EndModule ∷ ts) e = absurd (both_ways false refl e)
+  kind_leads rest (Fixed InputWord ∷ ts) e = wire_passed limit name (parts (Declaration Input) ∷ mark Semicolon ∷ items ∷ rest) ts
+  kind_leads rest (Fixed OutputWord ∷ ts) e = wire_passed limit name (parts (Declaration Output) ∷ mark Semicolon ∷ items ∷ rest) ts
   kind_leads rest (_ ∷ ts) e = refl
 
   item_leads : (rest : Stack) (ts : List Terminal) → item_next tt ts ≡ true → Leads limit (λ (r : Rest (List PartTree)). r.1) (items ∷ rest) (λ _. items ∷ rest) ts (item_at limit ts)
@@ -441,8 +411,7 @@ module _ (limit : ℕ) where
 
   end_leads : (rest : Stack) (ts : List Terminal) → item_next tt ts ≡ false → Leads limit (λ us. us) (items ∷ rest) (λ _. rest) ts (behind EndModule ts)
   end_leads rest [] e = (Other, refl)
-  end_leads rest (Mark EndModule ∷ ts) e = refl
-  end_leads rest (Mark _ ∷ ts) e = absurd (both_ways true e refl)
+  end_leads rest (Fixed EndModule ∷ ts) e = refl
   end_leads rest (_ ∷ ts) e = absurd (both_ways true e refl)
 
   -- headers
@@ -465,38 +434,35 @@ module _ (limit : ℕ) where
   ports_settle : (x : Symbol) (rest : Stack) (d : Option Direction) (ts : List Terminal) → run limit (further d ∷ x ∷ rest) ts ≡ run limit (ports_from x rest d ts) ts
   ports_settle x rest d ts = comma_settles limit (further d) (one_more d ∷ further d ∷ []) x rest ts (further_waits d)
 
-  directed_leads : (d : Direction) (x : Symbol) (rest : Stack) (ts : List Terminal) → Leads limit (λ (p : Rest Port). p.1) (maybe_wire ∷ name ∷ directed_ports ∷ x ∷ rest) (λ p. ports_from x rest p.0.direction p.1) ts (directed_at d ts)
+  directed_leads : (d : Direction) (x : Symbol) (rest : Stack) (ts : List Terminal) → Leads limit (λ (p : Rest Port). p.1) (maybe_wire ∷ name ∷ directed_ports ∷ x ∷ rest) (λ p. ports_from x rest p.0.direction p.1) ts (port_behind d ts)
   directed_leads d x rest ts =
-      from_here limit (λ (p : Rest Port). p.1) (maybe_wire ∷ name ∷ directed_ports ∷ x ∷ rest) (name ∷ directed_ports ∷ x ∷ rest) (λ p. ports_from x rest p.0.direction p.1) ts (past WireWord ts) (directed_at d ts) (wire_passed limit name (directed_ports ∷ x ∷ rest) ts)
+      from_here limit (λ (p : Rest Port). p.1) (maybe_wire ∷ name ∷ directed_ports ∷ x ∷ rest) (name ∷ directed_ports ∷ x ∷ rest) (λ p. ports_from x rest p.0.direction p.1) ts (past WireWord ts) (port_behind d ts) (wire_passed limit name (directed_ports ∷ x ∷ rest) ts)
       (chain limit (λ (n : Rest (List ℕ)). n.1) (λ (p : Rest Port). p.1) (name ∷ directed_ports ∷ x ∷ rest) (λ _. directed_ports ∷ x ∷ rest) (λ p. ports_from x rest p.0.direction p.1) (past WireWord ts) (name_at (past WireWord ts)) _ (name_leads limit (directed_ports ∷ x ∷ rest) (past WireWord ts))
       (λ n _. ports_settle x rest (Some d) n.1))
 
   first_port_leads : (rest : Stack) (ts : List Terminal) → next_is Close ts ≡ false → Leads limit (λ (p : Rest Port). p.1) (in_header ∷ rest) (λ p. ports_from (mark Close) rest p.0.direction p.1) ts (port_at true None ts)
   first_port_leads rest [] e = (Other, refl)
   first_port_leads rest (Name n ∷ ts) e = ports_settle (mark Close) rest None ts
-  first_port_leads rest (Mark Close ∷ ts) e = absurd (both_ways true e refl)
-  first_port_leads rest (Mark InputWord ∷ ts) e = directed_leads Input (mark Close) rest ts
-  first_port_leads rest (Mark OutputWord ∷ ts) e = directed_leads Output (mark Close) rest ts
-  first_port_leads rest (Mark _ ∷ ts) e = refl
+  first_port_leads rest (Fixed Close ∷ ts) e = absurd (both_ways true e refl)
+  first_port_leads rest (Fixed InputWord ∷ ts) e = directed_leads Input (mark Close) rest ts
+  first_port_leads rest (Fixed OutputWord ∷ ts) e = directed_leads Output (mark Close) rest ts
   first_port_leads rest (_ ∷ ts) e = refl
 
   port_leads : (d : Option Direction) (x : Symbol) (rest : Stack) (ts : List Terminal) → Leads limit (λ (p : Rest Port). p.1) (one_more d ∷ further d ∷ x ∷ rest) (λ p. ports_from x rest p.0.direction p.1) ts (port_at (is_some d) d ts)
   port_leads None x rest [] = (Other, refl)
   port_leads None x rest (Name n ∷ ts) = ports_settle x rest None ts
-  port_leads None x rest (Mark _ ∷ ts) = refl
   port_leads None x rest (_ ∷ ts) = refl
   port_leads (Some d) x rest [] = (Other, refl)
   port_leads (Some d) x rest (Name n ∷ ts) = ports_settle x rest (Some d) ts
-  port_leads (Some d) x rest (Mark InputWord ∷ ts) = directed_leads Input x rest ts
-  port_leads (Some d) x rest (Mark OutputWord ∷ ts) = directed_leads Output x rest ts
-  port_leads (Some d) x rest (Mark _ ∷ ts) = refl
+  port_leads (Some d) x rest (Fixed InputWord ∷ ts) = directed_leads Input x rest ts
+  port_leads (Some d) x rest (Fixed OutputWord ∷ ts) = directed_leads Output x rest ts
   port_leads (Some d) x rest (_ ∷ ts) = refl
 
-  comma_port_leads : (x : Symbol) (rest : Stack) (d : Option Direction) (ts us : List Terminal) → ts ≡ Mark Comma ∷ us →
+  comma_port_leads : (x : Symbol) (rest : Stack) (d : Option Direction) (ts us : List Terminal) → ts ≡ Fixed Comma ∷ us →
       Leads limit (λ (p : Rest (Port × Option Direction)). p.1) (ports_from x rest d ts) (λ p. ports_from x rest p.0.1 p.1) ts (comma_port d ts)
   comma_port_leads x rest d ts us e =
       subst (λ (vs : List Terminal). Leads limit (λ (p : Rest (Port × Option Direction)). p.1) (ports_from x rest d vs) (λ p. ports_from x rest p.0.1 p.1) vs (comma_port d vs)) (sym e)
-      (from_here limit (λ (p : Rest (Port × Option Direction)). p.1) (further d ∷ x ∷ rest) (one_more d ∷ further d ∷ x ∷ rest) (λ p. ports_from x rest p.0.1 p.1) (Mark Comma ∷ us) us (comma_port d (Mark Comma ∷ us))
+      (from_here limit (λ (p : Rest (Port × Option Direction)). p.1) (further d ∷ x ∷ rest) (one_more d ∷ further d ∷ x ∷ rest) (λ p. ports_from x rest p.0.1 p.1) (Fixed Comma ∷ us) us (comma_port d (Fixed Comma ∷ us))
       (comma_taken limit (further d) (one_more d ∷ further d ∷ []) (x ∷ rest) us (further_waits d))
       (chain limit (λ (p : Rest Port). p.1) (λ (p : Rest (Port × Option Direction)). p.1) (one_more d ∷ further d ∷ x ∷ rest) (λ p. ports_from x rest p.0.direction p.1) (λ p. ports_from x rest p.0.1 p.1) us (port_at (is_some d) d us) _ (port_leads d x rest us) (λ p _. refl)))
 
@@ -516,7 +482,7 @@ module _ (limit : ℕ) where
   abbrev inner : Reader (List Port)
   inner a = cond (next_is Close a) (behind Close a >>= λ r. let x : Rest (List Port) = ([], r) in Ok x) (ports_at a >>= λ ps. behind Close ps.1 >>= λ r. let x : Rest (List Port) = (ps.0, r) in Ok x)
 
-  closed_leads : (rest : Stack) (ts us : List Terminal) → ts ≡ Mark Close ∷ us → Leads limit (λ (r : Rest (List Port)). r.1) (in_header ∷ rest) (λ _. rest) ts (behind Close ts >>= λ r. let x : Rest (List Port) = ([], r) in Ok x)
+  closed_leads : (rest : Stack) (ts us : List Terminal) → ts ≡ Fixed Close ∷ us → Leads limit (λ (r : Rest (List Port)). r.1) (in_header ∷ rest) (λ _. rest) ts (behind Close ts >>= λ r. let x : Rest (List Port) = ([], r) in Ok x)
   closed_leads rest ts us e = subst (λ (vs : List Terminal). Leads limit (λ (r : Rest (List Port)). r.1) (in_header ∷ rest) (λ _. rest) vs (behind Close vs >>= λ r. let x : Rest (List Port) = ([], r) in Ok x)) (sym e) refl
 
   inner_leads : (rest : Stack) (ts : List Terminal) → Leads limit (λ (r : Rest (List Port)). r.1) (in_header ∷ rest) (λ _. rest) ts (inner ts)
@@ -527,15 +493,13 @@ module _ (limit : ℕ) where
       (λ ps _. chain limit (λ us. us) (λ (r : Rest (List Port)). r.1) (mark Close ∷ rest) (λ _. rest) (λ _. rest) ps.1 (behind Close ps.1) _ (mark_leads limit Close rest ps.1) (λ us _. refl)))
 
   header_passed : (x : Symbol) (rest : Stack) (ts : List Terminal) → next_is Open ts ≡ false → run limit (header ∷ x ∷ rest) ts ≡ run limit (x ∷ rest) ts
-  header_passed x rest [] e = refl
-  header_passed x rest (Mark Open ∷ ts) e = absurd (both_ways true e refl)
-  header_passed x rest (Mark _ ∷ ts) e = refl
-  header_passed x rest (_ ∷ ts) e = refl
+  header_passed x rest (Fixed Open ∷ ts) e = absurd (both_ways true e refl)
+  header_passed x rest _ e = refl
 
-  opened_leads : (rest : Stack) (ts us : List Terminal) → ts ≡ Mark Open ∷ us → Leads limit (λ (r : Rest (List Port)). r.1) (header ∷ rest) (λ _. rest) ts (behind Open ts >>= inner)
+  opened_leads : (rest : Stack) (ts us : List Terminal) → ts ≡ Fixed Open ∷ us → Leads limit (λ (r : Rest (List Port)). r.1) (header ∷ rest) (λ _. rest) ts (behind Open ts >>= inner)
   opened_leads rest ts us e =
       subst (λ (vs : List Terminal). Leads limit (λ (r : Rest (List Port)). r.1) (header ∷ rest) (λ _. rest) vs (behind Open vs >>= inner)) (sym e)
-      (from_here limit (λ (r : Rest (List Port)). r.1) (header ∷ rest) (in_header ∷ rest) (λ _. rest) (Mark Open ∷ us) us (inner us) refl (inner_leads rest us))
+      (from_here limit (λ (r : Rest (List Port)). r.1) (header ∷ rest) (in_header ∷ rest) (λ _. rest) (Fixed Open ∷ us) us (inner us) refl (inner_leads rest us))
 
   header_leads : (x : Symbol) (rest : Stack) (ts : List Terminal) → Leads limit (λ (r : Rest (List Port)). r.1) (header ∷ x ∷ rest) (λ _. x ∷ rest) ts (header_at ts)
   unfolding header_at

@@ -3,12 +3,12 @@ use Rattle.std.proofs.Common.{◌≡◌, ℕ, ◌+◌, ◌≤◌, Bool, true, fa
 use Rattle.std.specs.Prelude.{Result, Ok, Err, IfOk, MatchResult}
 use Rattle.bx_logic.specs.declared.op.Op.{Op}
 use Rattle.bx_syntax.specs.declared.terminal.Terminal.{Terminal}
-use Rattle.bx_syntax.specs.declared.terminal.Terminal.TheVariants.{Mark}
+use Rattle.bx_syntax.specs.declared.terminal.Terminal.TheVariants.{Fixed}
 use Rattle.bx_syntax.specs.declared.terminal.Mark.TheVariants.{Module as ModuleWord, EndModule, Open, Close, Comma, Semicolon}
 use Rattle.bx_syntax.specs.declared.tree.Port.{Port}
 use Rattle.bx_syntax.specs.declared.part.Kind.{Kind}
 use Rattle.bx_syntax.specs.declared.part.Kind.TheVariants.{Declaration, Wire, Assign, Gate}
-use Rattle.bx_syntax.specs.declared.tree.Expr.{Expr, Net, Bit as BitOf, Not', Group', Joined'}
+use Rattle.bx_syntax.specs.declared.tree.Expr.{Expr, Net}
 use Rattle.bx_syntax.specs.Trees.{Tree, net, tree}
 use Rattle.bx_syntax.specs.declared.stop.Stop.{Stop}
 use Rattle.bx_syntax.specs.declared.stop.Stop.TheVariants.{Bad, Deep, NoMemory}
@@ -21,11 +21,11 @@ use Rattle.bx_syntax.proofs.ReadsExpressions.{bind_ok, ok_is}
 use Rattle.bx_syntax.proofs.Repeats.{Repeats}
 use Rattle.bx_syntax.proofs.ReadsModules.{comma_and, comma_repeats, expr_shorter, expression_reads, items_again, mark_again, module_reads, name_again, not_comma, ports_again, ports_front}
 
-header_again : (ps : List Port) (ts rest end : List Terminal) → IsHeader ps ts rest → Is (Mark Semicolon) rest end → header_at ts ≡ Ok (ps, rest)
+header_again : (ps : List Port) (ts rest end : List Terminal) → IsHeader ps ts rest → Is (Fixed Semicolon) rest end → header_at ts ≡ Ok (ps, rest)
 unfolding header_at
 header_again ps ts rest end (inl (none, same)) e = rw (none, same, e) refl
 header_again ps ts rest end (inr (a, b, opens, inl (none, same), closing)) e =
-    let inner : Is (Mark Close) a rest = same ∙ closing in
+    let inner : Is (Fixed Close) a rest = same ∙ closing in
     rw (none, mark_again Open ts a opens, mark_again Close a rest inner) refl
 header_again ps ts rest end (inr (a, b, opens, inr ports, closing)) e =
     rw (mark_again Open ts a opens, ports_front ps a b ports, ports_again ps a b ports (not_comma Close b rest refl closing), mark_again Close b rest closing) refl
@@ -66,9 +66,7 @@ module _ (low high : ℕ) (le : low ≤ high) where
   gate_wider : (op : Op) → Wider (IsGate low op) (IsGate high op)
   gate_wider op (gate o n es) ts rest (same, x, y, (a, b, c, d, p, q, r, s, t)) = (same, x, y, (a, b, c, d, p, q, r, listed_wider (IsExpr low) (IsExpr high) expr_wider es c d s, t))
   gate_wider op (copies o ns e) ts rest (same, x, (a, b, c, d, p, q, r, s, t)) = (same, x, (a, b, c, d, p, q, r, expr_wider e c d s, t))
-  gate_wider op (declaration d n) ts rest h = h
-  gate_wider op (wire n e) ts rest h = h
-  gate_wider op (assign n e) ts rest h = h
+  gate_wider op _ ts rest h = absurd h
 
   part_wider : (k : Kind) → Wider (IsPart low k) (IsPart high k)
   part_wider (Declaration d) (declaration e n) ts rest h = h
@@ -110,10 +108,7 @@ expressions_repeat limit = comma_repeats (IsExpr limit) (expression limit) (expr
 -- A tree of the code that isn't a name isn't one to the grammar.
 pub not_net : (e : Expr) → ((n : List ℕ) → e ≡ Net n → ⊥) → is_net (tree e) ≡ false
 not_net (Net n) f = absurd (f n refl)
-not_net (BitOf b) f = refl
-not_net (Not' _ e) f = refl
-not_net (Group' _ e) f = refl
-not_net (Joined' _ e o _ g _ r) f = refl
+not_net _ f = refl
 
 pub net_tree : (e : Expr) (n : List ℕ) → e ≡ Net n → tree e ≡ net n
 net_tree e n h = ap tree h

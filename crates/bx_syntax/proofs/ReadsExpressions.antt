@@ -4,17 +4,17 @@ use Rattle.std.proofs.lemmas.Grind.{common_steps}
 use Rattle.std.proofs.lemmas.Bool.Decides.{eqb_tells}
 use Rattle.std.proofs.Common.{⊎_elim}
 use Rattle.bx_syntax.specs.declared.terminal.Terminal.{Terminal}
-use Rattle.bx_syntax.specs.declared.terminal.Terminal.TheVariants.{Mark, Gate, Name, Bit, Number, Reserved, Symbol}
-use Rattle.bx_syntax.specs.declared.terminal.Mark.{Mark as Sign}
+use Rattle.bx_syntax.specs.declared.terminal.Terminal.TheVariants.{Fixed, GateWord, Name, Bit, Number, Reserved, Symbol}
+use Rattle.bx_syntax.specs.declared.terminal.Mark.{Mark}
 use Rattle.bx_syntax.specs.declared.terminal.Mark.TheVariants.{Module, EndModule, Input, Output, Wire, Assign, Open, Close, Comma, Semicolon, Equals, Tilde, Ampersand, Caret, TildeCaret, Bar}
 use Rattle.bx_syntax.specs.declared.tree.Operator.{Operator}
 use Rattle.bx_syntax.specs.declared.tree.Operator.TheVariants.{And, Xor, Xnor, Or}
 use Rattle.bx_syntax.specs.declared.tree.Expr.{Expr, Row_of-Operand, end_of-Operand, more_of-Operand, items-the_row-Operand, items_hidden-the_row-Operand-0}
 use Rattle.bx_syntax.specs.declared.tree.Expr.TheBlock.{hidden-the_row-Operand-0}
 use Rattle.bx_syntax.specs.declared.tree.Operand.{Operand}
-use Rattle.bx_syntax.specs.Trees.{Tree, net, bit, inverse, group, joined, Tail, done, link, started, tree, tail, row_tail}
+use Rattle.bx_syntax.specs.Trees.{Tree, net, bit, inverse, group, joined, Tail, done, link, chain_of, tree, tail, row_tail}
 use Rattle.bx_syntax.specs.Expressions.{rank, IsAt, AreAt, sign, spelling, tail_spelling, nesting, tail_nesting}
-use Rattle.bx_syntax.specs.ReadsExpressions.{Reader, ◌>>=◌, stops, too_deep, operator_of, of_rank, operator_at, linked, tail_within, tail_at, joined_at, level_at, number, behind, inverse_with, group_with, nested_with, primary_with, primary_at, expr_at, inverse_at, group_at}
+use Rattle.bx_syntax.specs.ReadsExpressions.{Reader, ◌>>=◌, stops, too_deep, operator_of, of_rank, operator_at, link_at, tail_within, tail_at, joined_at, level_at, number, behind, inverse_with, group_with, nested_with, primary_with, primary_at, expr_at, inverse_at, group_at}
 use Rattle.bx_logic.specs.declared.op.Op.{Op}
 use Rattle.bx_syntax.specs.declared.stop.Stop.{Stop}
 use Rattle.bx_syntax.specs.declared.stop.Stop.TheVariants.{Bad, Deep, NoMemory}
@@ -76,34 +76,36 @@ tail_step : (operand : Reader Tree) (k n : ℕ) (o : Operator) (t : Tree) (ts : 
 unfolding tail_within
 tail_step operand k n o t ts text middle rest r e f = rw (sign_front, of_rank-same o k r, e, f) refl
 
-pub primary_name : (d : ℕ) (n : List ℕ) (rest : List Terminal) → primary_at d (Name n ∷ rest) ≡ Ok (net n, rest)
+-- however deep may nest, a primary is read by its first terminal
+primary_is : (d : ℕ) → (p : Reader Tree) × (q : Reader Tree) × ((ts : List Terminal) → primary_at d ts ≡ primary_with p q ts)
 unfolding primary_at
-primary_name zero n rest = refl
-primary_name (suc d) n rest = refl
+primary_is zero = (too_deep, too_deep, λ ts. refl)
+primary_is (suc d) = (primary_at d, level_at (primary_at d) 3, λ ts. refl)
+
+pub primary_name : (d : ℕ) (n : List ℕ) (rest : List Terminal) → primary_at d (Name n ∷ rest) ≡ Ok (net n, rest)
+primary_name d n rest = (primary_is d).2 (Name n ∷ rest)
 
 pub primary_bit : (d : ℕ) (b : _) (rest : List Terminal) → primary_at d (Bit b ∷ rest) ≡ Ok (bit b, rest)
-unfolding primary_at
-primary_bit zero n rest = refl
-primary_bit (suc d) n rest = refl
+primary_bit d b rest = (primary_is d).2 (Bit b ∷ rest)
 
 primary_inverse : (d : ℕ) (t : Tree) (ts rest : List Terminal) → primary_at d ts ≡ Ok (t, rest) →
-    primary_at (suc d) (Mark Tilde ∷ ts) ≡ Ok (inverse t, rest)
+    primary_at (suc d) (Fixed Tilde ∷ ts) ≡ Ok (inverse t, rest)
 unfolding primary_at
 primary_inverse d t ts rest e = rw e refl
 
-primary_group : (d : ℕ) (t : Tree) (ts rest : List Terminal) → expr_at d ts ≡ Ok (t, Mark Close ∷ rest) →
-    primary_at (suc d) (Mark Open ∷ ts) ≡ Ok (group t, rest)
+primary_group : (d : ℕ) (t : Tree) (ts rest : List Terminal) → expr_at d ts ≡ Ok (t, Fixed Close ∷ rest) →
+    primary_at (suc d) (Fixed Open ∷ ts) ≡ Ok (group t, rest)
 unfolding primary_at
 primary_group d t ts rest e = rw e refl
 
 -- operands of a level, where the first one and those behind it are read
 joined_step : (p : Reader Tree) (k : ℕ) (t : Tree) (ts : Tail) (text middle rest : List Terminal) →
     level_at p k text ≡ Ok (t, middle) → tail_within (level_at p k) k (length middle) middle ≡ Ok (ts, rest) →
-    level_at p (suc k) text ≡ Ok (started t ts, rest)
+    level_at p (suc k) text ≡ Ok (chain_of t ts, rest)
 unfolding level_at joined_at tail_at
 joined_step p k t ts text middle rest e f = rw (e, f) refl
 
-ends_close : (k : ℕ) (ts : List Terminal) → Ends k (Mark Close ∷ ts)
+ends_close : (k : ℕ) (ts : List Terminal) → Ends k (Fixed Close ∷ ts)
 ends_close k ts = record { none = λ j lt. refl }
 
 -- what a primary is read as is read at each level
@@ -131,7 +133,7 @@ mutual
       lift_primary (suc d) k _ _ rest (primary_inverse d t _ rest inner) ends
   again (group t) zero k rest at deep ends = absurd (omega arith)
   again (group t) (suc d) k rest at deep ends =
-      let inner = again t d 3 (Mark Close ∷ rest) at (omega arith) (ends_close 3 rest) in
+      let inner = again t d 3 (Fixed Close ∷ rest) at (omega arith) (ends_close 3 rest) in
       rw append_assoc (lift_primary (suc d) k _ _ rest (primary_group d t _ rest inner) ends)
   again (joined t o u ts) d k rest at deep ends =
       let above : Ends (suc (rank o)) rest = ends_below (suc (rank o)) k rest (omega arith) ends in
@@ -185,12 +187,12 @@ rank_is o o' k e =
 
 -- the operator that is found at the front stands there
 pub operator_is : (k : ℕ) (ts : List Terminal) (o : Operator) → operator_at k ts ≡ Some o → (ts ≡ sign o ∷ drop 1 ts) × (rank o ≡ k)
-operator_is k (Mark s ∷ ts) o e = of_symbol s e
+operator_is k (Fixed s ∷ ts) o e = of_symbol s e
   where
     signed : (o' : Operator) → of_rank k (Some o') ≡ Some o → (sign o' ∷ ts ≡ sign o ∷ ts) × (rank o ≡ k)
     signed o' e = let h = rank_is o' o k e in (ap (λ w. sign w ∷ ts) h.0, ap rank (sym h.0) ∙ h.1)
 
-    of_symbol : (s : Sign) → of_rank k (operator_of s) ≡ Some o → (Mark s ∷ ts ≡ sign o ∷ ts) × (rank o ≡ k)
+    of_symbol : (s : Mark) → of_rank k (operator_of s) ≡ Some o → (Fixed s ∷ ts ≡ sign o ∷ ts) × (rank o ≡ k)
     of_symbol Ampersand e = signed And e
     of_symbol Caret e = signed Xor e
     of_symbol TildeCaret e = signed Xnor e
@@ -206,11 +208,11 @@ no_tail d k ts x e =
 both_spelled : {A : Type 0} (ts a middle b rest : List A) → ts ≡ a ++ middle → middle ≡ b ++ rest → ts ≡ (a ++ b) ++ rest
 both_spelled ts a middle b rest e f = e ∙ (ap (λ m. a ++ m) f ∙ sym (append_assoc a b rest))
 
-linked_finds : (p : Reader Tree) (more : Reader Tail) (d k : ℕ) → Finds d k p →
+link_at_finds : (p : Reader Tree) (more : Reader Tail) (d k : ℕ) → Finds d k p →
     ((ts : List Terminal) (x : Tail × List Terminal) → more ts ≡ Ok x → FoundTail d k ts x.0 x.1) →
-    (o : Option Operator) (ts : List Terminal) (x : Tail × List Terminal) → operator_at k ts ≡ o → linked p more o ts ≡ Ok x → FoundTail d k ts x.0 x.1
-linked_finds p more d k f g None ts x h e = no_tail d k ts x e
-linked_finds p more d k f g (Some o) ts x h e =
+    (o : Option Operator) (ts : List Terminal) (x : Tail × List Terminal) → operator_at k ts ≡ o → link_at p more o ts ≡ Ok x → FoundTail d k ts x.0 x.1
+link_at_finds p more d k f g None ts x h e = no_tail d k ts x e
+link_at_finds p more d k f g (Some o) ts x h e =
     let one = bind_ok e in
     let two = bind_ok one.2 in
     let front = operator_is k ts o h in
@@ -226,7 +228,7 @@ linked_finds p more d k f g (Some o) ts x h e =
 tail_finds : (p : Reader Tree) (d k n : ℕ) → Finds d k p → (ts : List Terminal) (x : Tail × List Terminal) → tail_within p k n ts ≡ Ok x → FoundTail d k ts x.0 x.1
 unfolding tail_within
 tail_finds p d k zero f ts x e = no_tail d k ts x e
-tail_finds p d k (suc n) f ts x e = linked_finds p (tail_within p k n) d k f (tail_finds p d k n f) (operator_at k ts) ts x refl e
+tail_finds p d k (suc n) f ts x e = link_at_finds p (tail_within p k n) d k f (tail_finds p d k n f) (operator_at k ts) ts x refl e
 
 IsAt-above : (k : ℕ) (t : Tree) → IsAt k t → IsAt (suc k) t
 IsAt-above k (net n) h = tt
@@ -235,17 +237,17 @@ IsAt-above k (inverse t) h = h
 IsAt-above k (group t) h = h
 IsAt-above k (joined t o u ts) h = (omega arith, h.1, h.2, h.3)
 
-IsAt-started : (k : ℕ) (t : Tree) (ts : Tail) → IsAt k t → AreAt k ts → IsAt (suc k) (started t ts)
-IsAt-started k t done h g = IsAt-above k t h
-IsAt-started k t (link o u ts) h g = (omega (arith, g.0), subst (λ i. IsAt i t) (sym g.0) h, subst (λ i. IsAt i u) (sym g.0) g.1, subst (λ i. AreAt i ts) (sym g.0) g.2)
+IsAt-chain_of : (k : ℕ) (t : Tree) (ts : Tail) → IsAt k t → AreAt k ts → IsAt (suc k) (chain_of t ts)
+IsAt-chain_of k t done h g = IsAt-above k t h
+IsAt-chain_of k t (link o u ts) h g = (omega (arith, g.0), subst (λ i. IsAt i t) (sym g.0) h, subst (λ i. IsAt i u) (sym g.0) g.1, subst (λ i. AreAt i ts) (sym g.0) g.2)
 
-spelling-started : (t : Tree) (ts : Tail) → spelling (started t ts) ≡ spelling t ++ tail_spelling ts
-spelling-started t done = grind (arith, common_steps)
-spelling-started t (link o u ts) = refl
+spelling-chain_of : (t : Tree) (ts : Tail) → spelling (chain_of t ts) ≡ spelling t ++ tail_spelling ts
+spelling-chain_of t done = grind (arith, common_steps)
+spelling-chain_of t (link o u ts) = refl
 
-nesting-started : (d : ℕ) (t : Tree) (ts : Tail) → nesting t ≤ d → tail_nesting ts ≤ d → nesting (started t ts) ≤ d
-nesting-started d t done h g = h
-nesting-started d t (link o u ts) h g = omega arith
+nesting-chain_of : (d : ℕ) (t : Tree) (ts : Tail) → nesting t ≤ d → tail_nesting ts ≤ d → nesting (chain_of t ts) ≤ d
+nesting-chain_of d t done h g = h
+nesting-chain_of d t (link o u ts) h g = omega arith
 
 joined_finds : (p : Reader Tree) (d k : ℕ) → Finds d k p → Finds d (suc k) (joined_at p k)
 unfolding joined_at tail_at
@@ -256,9 +258,9 @@ joined_finds p d k f ts x e =
     let behind = tail_finds p d k (length one.0.1) f one.0.1 two.0 two.1 in
     subst (λ (x : Tree × List Terminal). Found d (suc k) ts x.0 x.1) (ok_is two.2)
     (record {
-      spelled = rw (spelling-started one.0.0 two.0.0) (both_spelled ts (spelling one.0.0) one.0.1 (tail_spelling two.0.0) two.0.1 here.spelled behind.spelled);
-      level = IsAt-started k one.0.0 two.0.0 here.level behind.level;
-      nested = nesting-started d one.0.0 two.0.0 here.nested behind.nested;
+      spelled = rw (spelling-chain_of one.0.0 two.0.0) (both_spelled ts (spelling one.0.0) one.0.1 (tail_spelling two.0.0) two.0.1 here.spelled behind.spelled);
+      level = IsAt-chain_of k one.0.0 two.0.0 here.level behind.level;
+      nested = nesting-chain_of d one.0.0 two.0.0 here.nested behind.nested;
     })
 
 level_finds : (p : Reader Tree) (d : ℕ) → Finds d 0 p → (k : ℕ) → Finds d k (level_at p k)
@@ -266,63 +268,49 @@ unfolding level_at
 level_finds p d f zero = f
 level_finds p d f (suc k) = joined_finds (level_at p k) d k (level_finds p d f k)
 
-mark_of : ℕ → Sign
+mark_of : ℕ → Mark
 mark_of n = get_or (Module ∷ EndModule ∷ Input ∷ Output ∷ Wire ∷ Assign ∷ Open ∷ Close ∷ Comma ∷ Semicolon ∷ Equals ∷ Tilde ∷ Ampersand ∷ Caret ∷ TildeCaret ∷ Bar ∷ []) n Module
 
-mark_of-number : (s : Sign) → mark_of (number s) ≡ s
+mark_of-number : (s : Mark) → mark_of (number s) ≡ s
 unfolding mark_of
 mark_of-number Module = refl
-mark_of-number EndModule = refl
-mark_of-number Input = refl
-mark_of-number Output = refl
-mark_of-number Wire = refl
-mark_of-number Assign = refl
-mark_of-number Open = refl
-mark_of-number Close = refl
-mark_of-number Comma = refl
-mark_of-number Semicolon = refl
-mark_of-number Equals = refl
-mark_of-number Tilde = refl
-mark_of-number Ampersand = refl
-mark_of-number Caret = refl
-mark_of-number TildeCaret = refl
-mark_of-number Bar = refl
+mark_of-number _ = refl
 
-pub same_mark : (s r : Sign) → number s ≡ number r → s ≡ r
+pub same_mark : (s r : Mark) → number s ≡ number r → s ≡ r
 same_mark s r e = sym (mark_of-number s) ∙ (ap mark_of e ∙ mark_of-number r)
 
-pub behind_mark : (s : Sign) (rest : List Terminal) → behind s (Mark s ∷ rest) ≡ Ok rest
+pub behind_mark : (s : Mark) (rest : List Terminal) → behind s (Fixed s ∷ rest) ≡ Ok rest
 behind_mark s rest = rw (eq-eqb (number s) (number s) refl) refl
 
-pub behind_is : (s : Sign) (ts rest : List Terminal) → behind s ts ≡ Ok rest → ts ≡ Mark s ∷ rest
-behind_is s (Mark r ∷ ts) rest e =
+pub behind_is : (s : Mark) (ts rest : List Terminal) → behind s ts ≡ Ok rest → ts ≡ Fixed s ∷ rest
+behind_is s (Fixed r ∷ ts) rest e =
     ⊎_elim
-    (λ yes. ap (λ l. Mark r ∷ l) (ok_is (rw yes.0 at e)) ∙ ap (λ q. Mark q ∷ rest) (same_mark r s yes.1))
-    (λ no. let never : stops Other (Mark r ∷ ts) ≡ Ok rest = rw no.0 at e in absurd (cc))
+    (λ yes. ap (λ l. Fixed r ∷ l) (ok_is (rw yes.0 at e)) ∙ ap (λ q. Fixed q ∷ rest) (same_mark r s yes.1))
+    (λ no. let never : stops Other (Fixed r ∷ ts) ≡ Ok rest = rw no.0 at e in absurd (cc))
     (eqb_tells (number r) (number s))
 behind_is s _ rest e = absurd (cc)
 
-inverse_finds : (p : Reader Tree) (d : ℕ) → Finds d 0 p → (ts : List Terminal) (x : Tree × List Terminal) → inverse_with p ts ≡ Ok x → Found (suc d) 0 (Mark Tilde ∷ ts) x.0 x.1
+inverse_finds : (p : Reader Tree) (d : ℕ) → Finds d 0 p → (ts : List Terminal) (x : Tree × List Terminal) → inverse_with p ts ≡ Ok x → Found (suc d) 0 (Fixed Tilde ∷ ts) x.0 x.1
 inverse_finds p d f ts x e =
     let one = bind_ok e in
     let here = f ts one.0 one.1 in
-    subst (λ (x : Tree × List Terminal). Found (suc d) 0 (Mark Tilde ∷ ts) x.0 x.1) (ok_is one.2)
-    (record { spelled = ap (λ l. Mark Tilde ∷ l) here.spelled; level = here.level; nested = omega (arith, here.nested) })
+    subst (λ (x : Tree × List Terminal). Found (suc d) 0 (Fixed Tilde ∷ ts) x.0 x.1) (ok_is one.2)
+    (record { spelled = ap (λ l. Fixed Tilde ∷ l) here.spelled; level = here.level; nested = omega (arith, here.nested) })
 
-group_finds : (p : Reader Tree) (d : ℕ) → Finds d 3 p → (ts : List Terminal) (x : Tree × List Terminal) → group_with p ts ≡ Ok x → Found (suc d) 0 (Mark Open ∷ ts) x.0 x.1
+group_finds : (p : Reader Tree) (d : ℕ) → Finds d 3 p → (ts : List Terminal) (x : Tree × List Terminal) → group_with p ts ≡ Ok x → Found (suc d) 0 (Fixed Open ∷ ts) x.0 x.1
 group_finds p d f ts x e =
     let one = bind_ok e in
     let two = bind_ok one.2 in
     let here = f ts one.0 one.1 in
     let close = behind_is Close one.0.1 two.0 two.1 in
-    subst (λ (x : Tree × List Terminal). Found (suc d) 0 (Mark Open ∷ ts) x.0 x.1) (ok_is two.2)
+    subst (λ (x : Tree × List Terminal). Found (suc d) 0 (Fixed Open ∷ ts) x.0 x.1) (ok_is two.2)
     (record {
-      spelled = ap (λ l. Mark Open ∷ l) (both_spelled ts (spelling one.0.0) one.0.1 (Mark Close ∷ []) two.0 here.spelled close);
+      spelled = ap (λ l. Fixed Open ∷ l) (both_spelled ts (spelling one.0.0) one.0.1 (Fixed Close ∷ []) two.0 here.spelled close);
       level = here.level;
       nested = omega (arith, here.nested);
     })
 
-nested_finds : (p q : Reader Tree) (d : ℕ) → Finds d 0 p → Finds d 3 q → (s : Sign) (ts : List Terminal) (x : Tree × List Terminal) → nested_with s p q ts ≡ Ok x → Found (suc d) 0 (Mark s ∷ ts) x.0 x.1
+nested_finds : (p q : Reader Tree) (d : ℕ) → Finds d 0 p → Finds d 3 q → (s : Mark) (ts : List Terminal) (x : Tree × List Terminal) → nested_with s p q ts ≡ Ok x → Found (suc d) 0 (Fixed s ∷ ts) x.0 x.1
 nested_finds p q d f g Tilde ts x e = inverse_finds p d f ts x e
 nested_finds p q d f g Open ts x e = group_finds q d g ts x e
 nested_finds p q d f g _ ts x e = absurd (cc)
@@ -334,18 +322,14 @@ leaf_finds d t s ts x e h z same =
     (record { spelled = sym (ap (λ l. l ++ ts) e); level = h; nested = omega arith })
 
 primary_finds_by : (p q : Reader Tree) (d : ℕ) →
-    ((s : Sign) (ts : List Terminal) (x : Tree × List Terminal) → nested_with s p q ts ≡ Ok x → Found d 0 (Mark s ∷ ts) x.0 x.1) →
+    ((s : Mark) (ts : List Terminal) (x : Tree × List Terminal) → nested_with s p q ts ≡ Ok x → Found d 0 (Fixed s ∷ ts) x.0 x.1) →
     Finds d 0 (primary_with p q)
-primary_finds_by p q d f [] x e = absurd (cc)
-primary_finds_by p q d f (Gate _ ∷ ts) x e = absurd (cc)
-primary_finds_by p q d f (Number ∷ ts) x e = absurd (cc)
-primary_finds_by p q d f (Reserved ∷ ts) x e = absurd (cc)
-primary_finds_by p q d f (Symbol b ∷ ts) x e = absurd (cc)
 primary_finds_by p q d f (Name n ∷ ts) x e = leaf_finds d (net n) (Name n) ts x refl tt refl e
 primary_finds_by p q d f (Bit b ∷ ts) x e = leaf_finds d (bit b) (Bit b) ts x refl tt refl e
-primary_finds_by p q d f (Mark s ∷ ts) x e = f s ts x e
+primary_finds_by p q d f (Fixed s ∷ ts) x e = f s ts x e
+primary_finds_by p q d f _ x e = absurd (cc)
 
-nothing_nested : (d : ℕ) (s : Sign) (ts : List Terminal) (x : Tree × List Terminal) → nested_with s too_deep too_deep ts ≡ Ok x → Found d 0 (Mark s ∷ ts) x.0 x.1
+nothing_nested : (d : ℕ) (s : Mark) (ts : List Terminal) (x : Tree × List Terminal) → nested_with s too_deep too_deep ts ≡ Ok x → Found d 0 (Fixed s ∷ ts) x.0 x.1
 nothing_nested d Tilde ts x e = absurd (cc)
 nothing_nested d Open ts x e = absurd (cc)
 nothing_nested d _ ts x e = absurd (cc)
@@ -391,15 +375,15 @@ ahead ts (Err e) = Err e
 behind_operator : Reader Tail → Operator → Tree × List Terminal → Result (Tail × List Terminal) Stop
 behind_operator more o x = more x.1 >>= λ y. Ok (link o x.0 y.0, y.1)
 
-linked_is : (p : Reader Tree) (more : Reader Tail) (o : Operator) (ts : List Terminal) → linked p more (Some o) ts ≡ (p (drop 1 ts) >>= behind_operator more o)
+link_at_is : (p : Reader Tree) (more : Reader Tail) (o : Operator) (ts : List Terminal) → link_at p more (Some o) ts ≡ (p (drop 1 ts) >>= behind_operator more o)
 unfolding behind_operator
-linked_is p more o ts = refl
+link_at_is p more o ts = refl
 
-same_linked : (p : Reader Tree) (k : ℕ) (more other : Reader Tail) (o : Option Operator) (ts : List Terminal) →
-    ((x : Tree × List Terminal) → p (drop 1 ts) ≡ Ok x → more x.1 ≡ other x.1) → linked p more o ts ≡ linked p other o ts
+same_link_at : (p : Reader Tree) (k : ℕ) (more other : Reader Tail) (o : Option Operator) (ts : List Terminal) →
+    ((x : Tree × List Terminal) → p (drop 1 ts) ≡ Ok x → more x.1 ≡ other x.1) → link_at p more o ts ≡ link_at p other o ts
 unfolding behind_operator
-same_linked p k more other None ts f = refl
-same_linked p k more other (Some o) ts f = linked_is p more o ts ∙ (by_first (p (drop 1 ts)) f ∙ sym (linked_is p other o ts))
+same_link_at p k more other None ts f = refl
+same_link_at p k more other (Some o) ts f = link_at_is p more o ts ∙ (by_first (p (drop 1 ts)) f ∙ sym (link_at_is p other o ts))
   where
     by_first : (r : Result (Tree × List Terminal) Stop) → ((x : Tree × List Terminal) → r ≡ Ok x → more x.1 ≡ other x.1) → (r >>= behind_operator more o) ≡ (r >>= behind_operator other o)
     by_first (Err e) f = refl
@@ -413,7 +397,7 @@ same_within p k zero m (t ∷ ts) s h g = absurd (omega arith)
 same_within p k (suc n) zero [] s h g = refl
 same_within p k (suc n) zero (t ∷ ts) s h g = absurd (omega arith)
 same_within p k (suc n) (suc m) ts s h g =
-    same_linked p k (tail_within p k n) (tail_within p k m) (operator_at k ts) ts
+    same_link_at p k (tail_within p k n) (tail_within p k m) (operator_at k ts) ts
     (λ x e. same_within p k n m x.1 s (omega (arith, s.less (drop 1 ts) x e, length-drop 1 ts)) (omega (arith, s.less (drop 1 ts) x e, length-drop 1 ts)))
 
 operator_is_ahead : (more : Reader Tail) (o : Operator) (t : Tree) (rest : List Terminal) → behind_operator more o (t, rest) ≡ ahead (link o t done) (more rest)
@@ -424,9 +408,9 @@ operator_is_ahead more o t rest = by_rest (more rest)
     by_rest (Err e) = refl
     by_rest (Ok y) = refl
 
-linked_is_ahead : (p : Reader Tree) (o : Operator) (more : Reader Tail) (t : Tree) (ts rest : List Terminal) → p (drop 1 ts) ≡ Ok (t, rest) →
-    linked p more (Some o) ts ≡ ahead (link o t done) (more rest)
-linked_is_ahead p o more t ts rest e = linked_is p more o ts ∙ (ap (λ r. r >>= behind_operator more o) e ∙ operator_is_ahead more o t rest)
+link_at_is_ahead : (p : Reader Tree) (o : Operator) (more : Reader Tail) (t : Tree) (ts rest : List Terminal) → p (drop 1 ts) ≡ Ok (t, rest) →
+    link_at p more (Some o) ts ≡ ahead (link o t done) (more rest)
+link_at_is_ahead p o more t ts rest e = link_at_is p more o ts ∙ (ap (λ r. r >>= behind_operator more o) e ∙ operator_is_ahead more o t rest)
 
 -- one operand more, and what is read behind it
 pub tail_next : (p : Reader Tree) (k : ℕ) (o : Operator) (t : Tree) (ts rest : List Terminal) → Shrinks p → operator_at k ts ≡ Some o → p (drop 1 ts) ≡ Ok (t, rest) →
@@ -434,7 +418,7 @@ pub tail_next : (p : Reader Tree) (k : ℕ) (o : Operator) (t : Tree) (ts rest :
 unfolding tail_at tail_within
 tail_next p k o t [] rest s h e = absurd (cc)
 tail_next p k o t (u ∷ ts) rest s h e =
-    rw h (linked_is_ahead p o (tail_within p k (length ts)) t (u ∷ ts) rest e ∙ ap (ahead (link o t done)) (same_within p k (length ts) (length rest) rest s (omega (arith, s.less ts (t, rest) e)) (omega arith)))
+    rw h (link_at_is_ahead p o (tail_within p k (length ts)) t (u ∷ ts) rest e ∙ ap (ahead (link o t done)) (same_within p k (length ts) (length rest) rest s (omega (arith, s.less ts (t, rest) e)) (omega arith)))
 
 pub tail_fails : (p : Reader Tree) (k : ℕ) (o : Operator) (ts : List Terminal) (w : Stop) → operator_at k ts ≡ Some o → p (drop 1 ts) ≡ Err w → tail_at p k ts ≡ Err w
 unfolding tail_at tail_within
@@ -465,48 +449,24 @@ pub row_tail-items : (n : _) (r : Row_of-Operand n) → row_tail r ≡ tail (ite
 row_tail-items _ end_of-Operand = refl
 row_tail-items _ (more_of-Operand o e r) = ap (link o (tree e)) (row_tail-items _ r)
 
-pub primary_tilde : (d : ℕ) (ts : List Terminal) → primary_at d (Mark Tilde ∷ ts) ≡ inverse_at d ts
+pub primary_tilde : (d : ℕ) (ts : List Terminal) → primary_at d (Fixed Tilde ∷ ts) ≡ inverse_at d ts
 unfolding primary_at
 primary_tilde zero ts = refl
 primary_tilde (suc d) ts = refl
 
-pub primary_open : (d : ℕ) (ts : List Terminal) → primary_at d (Mark Open ∷ ts) ≡ group_at d ts
+pub primary_open : (d : ℕ) (ts : List Terminal) → primary_at d (Fixed Open ∷ ts) ≡ group_at d ts
 unfolding primary_at
 primary_open zero ts = refl
 primary_open (suc d) ts = refl
 
 pub primary_empty : (d : ℕ) → primary_at d [] ≡ stops Primary []
-unfolding primary_at
-primary_empty zero = refl
-primary_empty (suc d) = refl
+primary_empty d = (primary_is d).2 []
 
 -- no other mark begins a primary
-pub primary_mark : (d : ℕ) (s : Sign) (ts : List Terminal) → (s ≡ Tilde → ⊥) → (s ≡ Open → ⊥) → primary_at d (Mark s ∷ ts) ≡ stops Primary (Mark s ∷ ts)
-unfolding primary_at
+pub primary_mark : (d : ℕ) (s : Mark) (ts : List Terminal) → (s ≡ Tilde → ⊥) → (s ≡ Open → ⊥) → primary_at d (Fixed s ∷ ts) ≡ stops Primary (Fixed s ∷ ts)
 primary_mark d Tilde ts e f = absurd (e refl)
 primary_mark d Open ts e f = absurd (f refl)
-primary_mark zero _ ts e f = refl
-primary_mark (suc d) _ ts e f = refl
-
-pub primary_gate : (d : ℕ) (op : Op) (ts : List Terminal) → primary_at d (Gate op ∷ ts) ≡ stops Primary (Gate op ∷ ts)
-unfolding primary_at
-primary_gate zero op ts = refl
-primary_gate (suc d) op ts = refl
-
-pub primary_number : (d : ℕ) (ts : List Terminal) → primary_at d (Number ∷ ts) ≡ stops Primary (Number ∷ ts)
-unfolding primary_at
-primary_number zero ts = refl
-primary_number (suc d) ts = refl
-
-pub primary_reserved : (d : ℕ) (ts : List Terminal) → primary_at d (Reserved ∷ ts) ≡ stops Primary (Reserved ∷ ts)
-unfolding primary_at
-primary_reserved zero ts = refl
-primary_reserved (suc d) ts = refl
-
-pub primary_symbol : (d b : ℕ) (ts : List Terminal) → primary_at d (Symbol b ∷ ts) ≡ stops Primary (Symbol b ∷ ts)
-unfolding primary_at
-primary_symbol zero b ts = refl
-primary_symbol (suc d) b ts = refl
+primary_mark d s ts e f = (primary_is d).2 (Fixed s ∷ ts)
 
 -- Why a reader fails is also why the one above it does.
 pub fails_too : {X Y : Type 0} (e : Stop) (r : Result X Stop) (s : Result Y Stop) → Fails e r → ((w : Stop) → r ≡ Err w → s ≡ Err w) → Fails e s
@@ -548,11 +508,11 @@ operands_end p k acc ts start h e = sym e ∙ (ap (ahead acc) (tail_ends p k ts 
 pub operands_shrink : (p : Reader Tree) (t : Tree) (ts behind rest : List Terminal) → Shrinks p → behind ≡ drop 1 ts → p behind ≡ Ok (t, rest) → length rest < length ts
 operands_shrink p t ts behind rest s b f = omega (arith, s.less behind (t, rest) f, ap length b, length-drop 1 ts)
 
-pub primary_neither : (d : ℕ) (t : Terminal) (ts : List Terminal) → ((op : Op) × (t ≡ Gate op)) ⊎ ((t ≡ Number) ⊎ ((t ≡ Reserved) ⊎ ((b : ℕ) × (t ≡ Symbol b)))) → primary_at d (t ∷ ts) ≡ stops Primary (t ∷ ts)
-primary_neither d t ts (inl (op, e)) = rw e (primary_gate d op ts)
-primary_neither d t ts (inr (inl e)) = rw e (primary_number d ts)
-primary_neither d t ts (inr (inr (inl e))) = rw e (primary_reserved d ts)
-primary_neither d t ts (inr (inr (inr (b, e)))) = rw e (primary_symbol d b ts)
+pub primary_neither : (d : ℕ) (t : Terminal) (ts : List Terminal) → ((op : Op) × (t ≡ GateWord op)) ⊎ ((t ≡ Number) ⊎ ((t ≡ Reserved) ⊎ ((b : ℕ) × (t ≡ Symbol b)))) → primary_at d (t ∷ ts) ≡ stops Primary (t ∷ ts)
+primary_neither d t ts (inl (op, e)) = rw e ((primary_is d).2 (GateWord op ∷ ts))
+primary_neither d t ts (inr (inl e)) = rw e ((primary_is d).2 (Number ∷ ts))
+primary_neither d t ts (inr (inr (inl e))) = rw e ((primary_is d).2 (Reserved ∷ ts))
+primary_neither d t ts (inr (inr (inr (b, e)))) = rw e ((primary_is d).2 (Symbol b ∷ ts))
 
 pub joined_tree : (first second f g : Expr) (o : Operator) (v : Vec Operand Global) → f ≡ first → g ≡ second → joined (tree f) o (tree g) (row_tail (hidden-the_row-Operand-0 v)) ≡ joined (tree first) o (tree second) (tail v.items)
 joined_tree first second f g o v h k =

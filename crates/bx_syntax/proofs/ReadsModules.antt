@@ -4,10 +4,10 @@ use Rattle.std.proofs.lemmas.Bool.{and_from}
 use Rattle.std.specs.Option.{is_some}
 use Rattle.std.specs.Prelude.{IsSome, is_ok}
 use Rattle.bx_logic.specs.declared.op.Op.{Op}
-use Rattle.bx_logic.specs.declared.op.Op.TheVariants.{Buf, Not, And, Or, Nand, Nor, Xor, Xnor}
+use Rattle.bx_logic.specs.declared.op.Op.TheVariants.{Buf, Not}
 use Rattle.bx_syntax.specs.declared.terminal.Terminal.{Terminal}
-use Rattle.bx_syntax.specs.declared.terminal.Terminal.TheVariants.{Mark, Gate as GateWord, Name, Bit, Number, Reserved, Symbol}
-use Rattle.bx_syntax.specs.declared.terminal.Mark.{Mark as Sign}
+use Rattle.bx_syntax.specs.declared.terminal.Terminal.TheVariants.{Fixed, GateWord, Name}
+use Rattle.bx_syntax.specs.declared.terminal.Mark.{Mark}
 use Rattle.bx_syntax.specs.declared.terminal.Mark.TheVariants.{Module as ModuleWord, EndModule, Input as InputWord, Output as OutputWord, Wire as WireWord, Assign as AssignWord, Open, Close, Comma, Semicolon, Equals}
 use Rattle.bx_syntax.specs.declared.stop.Stop.{Stop}
 use Rattle.bx_syntax.specs.declared.stop.Wanted.TheVariants.{Other}
@@ -16,12 +16,12 @@ use Rattle.bx_syntax.specs.declared.tree.Direction.TheVariants.{Input, Output}
 use Rattle.bx_syntax.specs.declared.tree.Port.{Port}
 use Rattle.bx_syntax.specs.declared.part.Kind.{Kind}
 use Rattle.bx_syntax.specs.declared.part.Kind.TheVariants.{Declaration, Wire, Assign, Gate}
-use Rattle.bx_syntax.specs.Trees.{Tree, net, bit, inverse, group, joined}
+use Rattle.bx_syntax.specs.Trees.{Tree, net}
 use Rattle.bx_syntax.specs.Parts.{PartTree, declaration, wire, assign, gate, copies, ModuleTree}
 use Rattle.bx_syntax.specs.Expressions.{spelling}
 use Rattle.bx_syntax.specs.ReadsExpressions.{Reader, ◌>>=◌, behind, expr_at}
 use Rattle.bx_syntax.specs.Repeats.{repeat_within, repeated, ahead_of}
-use Rattle.bx_syntax.specs.ReadsModules.{or_stop, next_is, name_at, past, past_name, comma_next, comma_step, listed_at, is_net, net_name, comma_behind_net, past_wire, kind_at, item_next, directed, direction_of, port_at, comma_port, port_next, ports_at, header_at, at_end, expression, wire_at, assign_at, many_at, name_and_expression, few_at, connections_at, gate_at, part_at, item_at, one_item, module_at}
+use Rattle.bx_syntax.specs.ReadsModules.{or_stop, next_is, name_at, past, past_name, comma_next, comma_step, listed_at, is_net, net_name, comma_behind_net, past_wire, kind_at, item_next, port_behind, direction_of, port_at, comma_port, port_next, ports_at, header_at, at_end, expression, wire_at, assign_at, many_at, name_and_expression, few_at, connections_at, driven_at, gate_at, part_at, item_at, one_item, module_at}
 use Rattle.bx_syntax.specs.Grammar.{Between, Is, IsOptional, IsName, IsLabel, AreMore, AreListed, word, IsExpr, IsWire, IsGate, IsPart, IsHead, IsItem, AreItems, IsPlain, IsDirected, ArePortsBehind, ArePorts, IsHeader, IsModule}
 use Rattle.bx_syntax.proofs.ReadsExpressions.{bind_ok, ok_is, behind_is, behind_mark, finds, again, Ends}
 use Rattle.bx_syntax.proofs.Repeats.{Repeats, ahead_is, repeated_step, repeated_stops}
@@ -36,48 +36,30 @@ expression_reads limit ts x e = let f = finds limit 3 ts x e in (f.level, f.nest
 
 name_reads : Reads IsName name_at
 name_reads (Name n ∷ ts) x e = subst (λ (x : List ℕ × List Terminal). IsName x.0 (Name n ∷ ts) x.1) (ok_is e) refl
-name_reads [] x e = absurd (cc)
-name_reads (Mark s ∷ ts) x e = absurd (cc)
-name_reads (GateWord s ∷ ts) x e = absurd (cc)
-name_reads (Bit s ∷ ts) x e = absurd (cc)
-name_reads (Number ∷ ts) x e = absurd (cc)
-name_reads (Reserved ∷ ts) x e = absurd (cc)
-name_reads (Symbol b ∷ ts) x e = absurd (cc)
+name_reads _ x e = absurd (cc)
 
-past_mark : (s r : Sign) (ts : List Terminal) → Mark r ∷ ts ≡ Mark s ∷ ts ⊎ (next_is s (Mark r ∷ ts) ≡ false)
-past_mark s r ts = by_rest (behind s (Mark r ∷ ts)) refl
+past_mark : (s r : Mark) (ts : List Terminal) → Fixed r ∷ ts ≡ Fixed s ∷ ts ⊎ (next_is s (Fixed r ∷ ts) ≡ false)
+past_mark s r ts = by_rest (behind s (Fixed r ∷ ts)) refl
   where
     tail_is : (a b : List Terminal) (m n : Terminal) → m ∷ a ≡ n ∷ b → m ∷ a ≡ n ∷ a
     tail_is a b m n e = cc
 
-    by_rest : (o : Result (List Terminal) Stop) → behind s (Mark r ∷ ts) ≡ o → (Mark r ∷ ts ≡ Mark s ∷ ts) ⊎ (is_ok o ≡ false)
+    by_rest : (o : Result (List Terminal) Stop) → behind s (Fixed r ∷ ts) ≡ o → (Fixed r ∷ ts ≡ Fixed s ∷ ts) ⊎ (is_ok o ≡ false)
     by_rest (Err w) e = inr refl
-    by_rest (Ok rest) e = inl (tail_is ts rest (Mark r) (Mark s) (behind_is s (Mark r ∷ ts) rest e))
+    by_rest (Ok rest) e = inl (tail_is ts rest (Fixed r) (Fixed s) (behind_is s (Fixed r ∷ ts) rest e))
 
-past_is : (s : Sign) (ts : List Terminal) → IsOptional (Mark s) ts (past s ts)
-past_is s (Mark r ∷ ts) =
-    by_test (next_is s (Mark r ∷ ts)) refl
+past_is : (s : Mark) (ts : List Terminal) → IsOptional (Fixed s) ts (past s ts)
+past_is s (Fixed r ∷ ts) =
+    by_test (next_is s (Fixed r ∷ ts)) refl
   where
-    by_test : (b : Bool) → next_is s (Mark r ∷ ts) ≡ b → (Mark r ∷ ts ≡ cond b ts (Mark r ∷ ts)) ⊎ (Mark r ∷ ts ≡ Mark s ∷ cond b ts (Mark r ∷ ts))
+    by_test : (b : Bool) → next_is s (Fixed r ∷ ts) ≡ b → (Fixed r ∷ ts ≡ cond b ts (Fixed r ∷ ts)) ⊎ (Fixed r ∷ ts ≡ Fixed s ∷ cond b ts (Fixed r ∷ ts))
     by_test false e = inl refl
     by_test true e = ⊎_elim (λ h. inr h) (λ h. let never : true ≡ false = sym e ∙ h in absurd (cc)) (past_mark s r ts)
-past_is s [] = inl refl
-past_is s (Name n ∷ ts) = inl refl
-past_is s (GateWord n ∷ ts) = inl refl
-past_is s (Bit n ∷ ts) = inl refl
-past_is s (Number ∷ ts) = inl refl
-past_is s (Reserved ∷ ts) = inl refl
-past_is s (Symbol b ∷ ts) = inl refl
+past_is s _ = inl refl
 
 past_name_is : (ts : List Terminal) → IsLabel ts (past_name ts)
 past_name_is (Name n ∷ ts) = inr (n, refl)
-past_name_is [] = inl refl
-past_name_is (Mark s ∷ ts) = inl refl
-past_name_is (GateWord n ∷ ts) = inl refl
-past_name_is (Bit n ∷ ts) = inl refl
-past_name_is (Number ∷ ts) = inl refl
-past_name_is (Reserved ∷ ts) = inl refl
-past_name_is (Symbol b ∷ ts) = inl refl
+past_name_is _ = inl refl
 
 pub there : {A : Type 0} (IsX : A → Between) (ts : List Terminal) {a : A} {rest : List Terminal} {x : A × List Terminal} →
     ◌≡◌ {A = Result (A × List Terminal) Stop} (Ok (a, rest)) (Ok x) → IsX a ts rest → IsX x.0 ts x.1
@@ -116,7 +98,7 @@ assign_reads limit ts x e =
     (n.0.1, r.0, name_reads ts n.0 n.1, behind_is Equals n.0.1 r.0 r.1, expression_reads limit r.0 t.0 t.1)
 
 step_reads : {A : Type 0} (IsX : A → Between) (p : Reader A) → Reads IsX p → (s : Unit {0}) (ts : List Terminal) (x : (A × Unit {0}) × List Terminal) →
-    comma_step p s ts ≡ Ok x → (c : List Terminal) × Is (Mark Comma) ts c × IsX x.0.0 c x.1
+    comma_step p s ts ≡ Ok x → (c : List Terminal) × Is (Fixed Comma) ts c × IsX x.0.0 c x.1
 step_reads IsX p f s ts x e =
     let r = bind_ok {o = behind Comma ts} e in
     let a = bind_ok {o = p r.0} r.2 in
@@ -161,21 +143,18 @@ many_reads limit op n ts x e =
 abbrev AreNames : (limit : ℕ) → Tree → List (List ℕ) → Tree → Between
 AreNames limit t [] u ts rest = (t ≡ u) × (ts ≡ rest)
 AreNames limit t (n ∷ ns) u ts rest =
-    (v : Tree) × (c : List Terminal) × (d : List Terminal) × (t ≡ net n) × Is (Mark Comma) ts c × IsExpr limit v c d × AreNames limit v ns u d rest
+    (v : Tree) × (c : List Terminal) × (d : List Terminal) × (t ≡ net n) × Is (Fixed Comma) ts c × IsExpr limit v c d × AreNames limit v ns u d rest
 
 net_is : (t : Tree) → is_net t ≡ true → t ≡ net (net_name t)
 net_is (net n) e = refl
-net_is (bit b) e = absurd (cc)
-net_is (inverse t) e = absurd (cc)
-net_is (group t) e = absurd (cc)
-net_is (joined t o u ts) e = absurd (cc)
+net_is _ e = absurd (cc)
 
 and_second : (a b : Bool) → a && b ≡ true → b ≡ true
 and_second true b e = e
 and_second false b e = absurd (cc)
 
 name_step_reads : (limit : ℕ) (t : Tree) (ts : List Terminal) (x : (List ℕ × Tree) × List Terminal) → name_and_expression limit t ts ≡ Ok x →
-    (c : List Terminal) × (x.0.0 ≡ net_name t) × Is (Mark Comma) ts c × IsExpr limit x.0.1 c x.1
+    (c : List Terminal) × (x.0.0 ≡ net_name t) × Is (Fixed Comma) ts c × IsExpr limit x.0.1 c x.1
 name_step_reads limit t ts x e =
     let r = bind_ok {o = behind Comma ts} e in
     let a = bind_ok {o = expression limit r.0} r.2 in (
@@ -201,15 +180,15 @@ names_read limit (suc n) t ts x e =
     (λ no. there (λ y. AreNames limit t y.0 y.1) ts no.1 (refl, refl))
     (chosen {b = comma_behind_net t ts} e)
 
-names_listed : (limit : ℕ) (t : Tree) (ns : List (List ℕ)) (u : Tree) (b c d rest : List Terminal) → Is (Mark Comma) b c → IsExpr limit t c d → AreNames limit t ns u d rest →
-    (m : List Terminal) × (k : List Terminal) × AreMore IsName ns b m × Is (Mark Comma) m k × IsExpr limit u k rest
+names_listed : (limit : ℕ) (t : Tree) (ns : List (List ℕ)) (u : Tree) (b c d rest : List Terminal) → Is (Fixed Comma) b c → IsExpr limit t c d → AreNames limit t ns u d rest →
+    (m : List Terminal) × (k : List Terminal) × AreMore IsName ns b m × Is (Fixed Comma) m k × IsExpr limit u k rest
 names_listed limit t [] u b c d rest h f g = (b, c, refl, h, subst (λ v. IsExpr limit v c rest) g.0 (subst (λ r. IsExpr limit t c r) g.1 f))
 names_listed limit t (n ∷ ns) u b c d rest h f (v, e, i, is, comma, one, more) =
     let last = names_listed limit v ns u d e i rest comma one more in
     (last.0, last.1, (c, d, h, (subst (λ w. IsExpr limit w c d) is f).2, last.2), last.3, last.4)
 
-few_reads : (limit : ℕ) (op : Op) (n : List ℕ) (a b c : List Terminal) (x : PartTree × List Terminal) → IsName n a b → Is (Mark Comma) b c → few_at limit op n c ≡ Ok x →
-    (ns : List (List ℕ)) × (t : Tree) × (m : List Terminal) × (k : List Terminal) × (x.0 ≡ copies op ns t) × AreListed IsName ns a m × Is (Mark Comma) m k × IsExpr limit t k x.1
+few_reads : (limit : ℕ) (op : Op) (n : List ℕ) (a b c : List Terminal) (x : PartTree × List Terminal) → IsName n a b → Is (Fixed Comma) b c → few_at limit op n c ≡ Ok x →
+    (ns : List (List ℕ)) × (t : Tree) × (m : List Terminal) × (k : List Terminal) × (x.0 ≡ copies op ns t) × AreListed IsName ns a m × Is (Fixed Comma) m k × IsExpr limit t k x.1
 unfolding few_at repeated
 few_reads limit op n a b c x name comma e =
     let t = bind_ok {o = expression limit c} e in
@@ -229,41 +208,39 @@ few_reads limit op n a b c x name comma e =
     )
 
 few_gate : (limit : ℕ) (op : Op) (n : List ℕ) (l a b c rest : List Terminal) (x : PartTree × List Terminal) → ((op ≡ Buf) ⊎ (op ≡ Not)) →
-    Is (Mark Open) l a → IsName n a b → Is (Mark Comma) b c → few_at limit op n c ≡ Ok x → Is (Mark Close) x.1 rest → IsGate limit op x.0 l rest
+    Is (Fixed Open) l a → IsName n a b → Is (Fixed Comma) b c → few_at limit op n c ≡ Ok x → Is (Fixed Close) x.1 rest → IsGate limit op x.0 l rest
 few_gate limit op n l a b c rest x which opens name comma e close =
     let f = few_reads limit op n a b c x name comma e in
     subst (λ (p : PartTree). IsGate limit op p l rest) (sym f.4) (refl, which, (a, f.2, f.3, x.1, opens, f.5, f.6, f.7, close))
 
 many_gate : (limit : ℕ) (op : Op) (n : List ℕ) (l a b c rest : List Terminal) (x : PartTree × List Terminal) → op ≢ Buf → op ≢ Not →
-    Is (Mark Open) l a → IsName n a b → Is (Mark Comma) b c → many_at limit op n c ≡ Ok x → Is (Mark Close) x.1 rest → IsGate limit op x.0 l rest
+    Is (Fixed Open) l a → IsName n a b → Is (Fixed Comma) b c → many_at limit op n c ≡ Ok x → Is (Fixed Close) x.1 rest → IsGate limit op x.0 l rest
 many_gate limit op n l a b c rest x f g opens name comma e close =
     let m = many_reads limit op n c x e in
     subst (λ (p : PartTree). IsGate limit op p l rest) (sym m.1) (refl, f, g, (a, b, c, x.1, opens, name, comma, m.2, close))
 
 connections_read : (limit : ℕ) (op : Op) (n : List ℕ) (l a b c rest : List Terminal) (x : PartTree × List Terminal) →
-    Is (Mark Open) l a → IsName n a b → Is (Mark Comma) b c → connections_at limit op n c ≡ Ok x → Is (Mark Close) x.1 rest → IsGate limit op x.0 l rest
+    Is (Fixed Open) l a → IsName n a b → Is (Fixed Comma) b c → connections_at limit op n c ≡ Ok x → Is (Fixed Close) x.1 rest → IsGate limit op x.0 l rest
 connections_read limit Buf n l a b c rest x = few_gate limit Buf n l a b c rest x (inl refl)
 connections_read limit Not n l a b c rest x = few_gate limit Not n l a b c rest x (inr refl)
-connections_read limit And n l a b c rest x = many_gate limit And n l a b c rest x (λ e. cc) (λ e. cc)
-connections_read limit Or n l a b c rest x = many_gate limit Or n l a b c rest x (λ e. cc) (λ e. cc)
-connections_read limit Nand n l a b c rest x = many_gate limit Nand n l a b c rest x (λ e. cc) (λ e. cc)
-connections_read limit Nor n l a b c rest x = many_gate limit Nor n l a b c rest x (λ e. cc) (λ e. cc)
-connections_read limit Xor n l a b c rest x = many_gate limit Xor n l a b c rest x (λ e. cc) (λ e. cc)
-connections_read limit Xnor n l a b c rest x = many_gate limit Xnor n l a b c rest x (λ e. cc) (λ e. cc)
+connections_read limit op n l a b c rest x = many_gate limit op n l a b c rest x (λ e. cc) (λ e. cc)
 
 gate_reads : (limit : ℕ) (op : Op) → Reads (IsPart limit (Gate op)) (gate_at limit op)
 unfolding gate_at
 gate_reads limit op ts x e =
-    let a = bind_ok {o = behind Open (past_name ts)} e in
+    let g = bind_ok {o = driven_at ts} e in
+    let a = bind_ok {o = behind Open (past_name ts)} g.1 in
     let n = bind_ok {o = name_at a.0} a.2 in
     let b = bind_ok {o = behind Comma n.0.1} n.2 in
-    let c = bind_ok {o = connections_at limit op n.0.0 b.0} b.2 in
+    let c = bind_ok {o = connections_at limit op g.0.0 g.0.1} g.2 in
     let d = bind_ok {o = behind Close c.0.1} c.2 in
+    let same = ok_is b.2 in
     there (IsPart limit (Gate op)) ts d.2 (
       past_name ts,
       past_name_is ts,
-      connections_read limit op n.0.0 (past_name ts) a.0 n.0.1 b.0 d.0 c.0 (behind_is Open (past_name ts) a.0 a.1) (name_reads a.0 n.0 n.1)
-          (behind_is Comma n.0.1 b.0 b.1) c.1 (behind_is Close c.0.1 d.0 d.1),
+      connections_read limit op g.0.0 (past_name ts) a.0 n.0.1 g.0.1 d.0 c.0 (behind_is Open (past_name ts) a.0 a.1)
+          (subst (λ (y : List ℕ × List Terminal). IsName y.0 a.0 n.0.1) same (name_reads a.0 n.0 n.1))
+          (subst (λ (y : List ℕ × List Terminal). Is (Fixed Comma) n.0.1 y.1) same (behind_is Comma n.0.1 b.0 b.1)) c.1 (behind_is Close c.0.1 d.0 d.1),
     )
 
 part_reads : (limit : ℕ) (k : Kind) → Reads (IsPart limit k) (part_at limit k)
@@ -279,10 +256,10 @@ past_wire_is d ts a h = (a, h, past_is WireWord a)
 
 kind_reads : (ts : List Terminal) (x : Kind × List Terminal) → kind_at ts ≡ Ok x → IsHead x.0 ts x.1
 kind_reads (GateWord op ∷ ts) x e = there IsHead (GateWord op ∷ ts) e refl
-kind_reads (Mark InputWord ∷ ts) x e = there IsHead (Mark InputWord ∷ ts) e (past_wire_is Input (Mark InputWord ∷ ts) ts refl)
-kind_reads (Mark OutputWord ∷ ts) x e = there IsHead (Mark OutputWord ∷ ts) e (past_wire_is Output (Mark OutputWord ∷ ts) ts refl)
-kind_reads (Mark WireWord ∷ ts) x e = there IsHead (Mark WireWord ∷ ts) e refl
-kind_reads (Mark AssignWord ∷ ts) x e = there IsHead (Mark AssignWord ∷ ts) e refl
+kind_reads (Fixed InputWord ∷ ts) x e = there IsHead (Fixed InputWord ∷ ts) e (past_wire_is Input (Fixed InputWord ∷ ts) ts refl)
+kind_reads (Fixed OutputWord ∷ ts) x e = there IsHead (Fixed OutputWord ∷ ts) e (past_wire_is Output (Fixed OutputWord ∷ ts) ts refl)
+kind_reads (Fixed WireWord ∷ ts) x e = there IsHead (Fixed WireWord ∷ ts) e refl
+kind_reads (Fixed AssignWord ∷ ts) x e = there IsHead (Fixed AssignWord ∷ ts) e refl
 kind_reads _ x e = absurd (cc)
 
 item_reads : (limit : ℕ) → Reads (IsItem limit) (item_at limit)
@@ -312,7 +289,7 @@ items_read limit (suc n) s ts x e =
     (λ no. there (λ y. AreItems limit y.0) ts no.1 refl)
     (chosen {b = item_next s ts} e)
 
-directed_reads : (d : Direction) (ts a : List Terminal) (x : Port × List Terminal) → Is (word d) ts a → directed d a ≡ Ok x → IsDirected x.0 ts x.1
+directed_reads : (d : Direction) (ts a : List Terminal) (x : Port × List Terminal) → Is (word d) ts a → port_behind d a ≡ Ok x → IsDirected x.0 ts x.1
 directed_reads d ts a x h e =
     let n = bind_ok {o = name_at (past WireWord a)} e in
     there IsDirected ts n.2 (d, past WireWord a, refl, (a, h, past_is WireWord a), name_reads (past WireWord a) n.0 n.1)
@@ -321,15 +298,15 @@ directed_reads d ts a x h e =
 abbrev IsPort : Bool → Option Direction → Port → Between
 IsPort words d p ts rest = IsPlain d p ts rest ⊎ ((words ≡ true) × IsDirected p ts rest)
 
-mark_port_reads : (s : Sign) (ts : List Terminal) (x : Port × List Terminal) → (or_stop Other (Mark s ∷ ts) (direction_of s) >>= λ e. directed e ts) ≡ Ok x → IsDirected x.0 (Mark s ∷ ts) x.1
-mark_port_reads InputWord ts x e = directed_reads Input (Mark InputWord ∷ ts) ts x refl e
-mark_port_reads OutputWord ts x e = directed_reads Output (Mark OutputWord ∷ ts) ts x refl e
+mark_port_reads : (s : Mark) (ts : List Terminal) (x : Port × List Terminal) → (or_stop Other (Fixed s ∷ ts) (direction_of s) >>= λ e. port_behind e ts) ≡ Ok x → IsDirected x.0 (Fixed s ∷ ts) x.1
+mark_port_reads InputWord ts x e = directed_reads Input (Fixed InputWord ∷ ts) ts x refl e
+mark_port_reads OutputWord ts x e = directed_reads Output (Fixed OutputWord ∷ ts) ts x refl e
 mark_port_reads _ ts x e = absurd (cc)
 
 port_reads : (words : Bool) (d : Option Direction) → Reads (IsPort words d) (port_at words d)
 port_reads words d (Name n ∷ ts) x e = there (IsPort words d) (Name n ∷ ts) e (inl (refl, refl))
-port_reads true d (Mark s ∷ ts) x e = inr (refl, mark_port_reads s ts x e)
-port_reads false d (Mark s ∷ ts) x e = absurd (cc)
+port_reads true d (Fixed s ∷ ts) x e = inr (refl, mark_port_reads s ts x e)
+port_reads false d (Fixed s ∷ ts) x e = absurd (cc)
 port_reads words d _ x e = absurd (cc)
 
 some_from : {A : Type 0} (o : Option A) → is_some o ≡ true → IsSome o
@@ -337,7 +314,7 @@ some_from (Some x) e = refl
 some_from None e = absurd (cc)
 
 comma_port_reads : (d : Option Direction) (ts : List Terminal) (x : (Port × Option Direction) × List Terminal) → comma_port d ts ≡ Ok x →
-    (c : List Terminal) × Is (Mark Comma) ts c × IsPort (is_some d) d x.0.0 c x.1 × (x.0.1 ≡ x.0.0.direction)
+    (c : List Terminal) × Is (Fixed Comma) ts c × IsPort (is_some d) d x.0.0 c x.1 × (x.0.1 ≡ x.0.0.direction)
 comma_port_reads d ts x e =
     let r = bind_ok {o = behind Comma ts} e in
     let p = bind_ok {o = port_at (is_some d) d r.0} r.2 in (
@@ -380,7 +357,7 @@ inner_header : List Terminal → Result (List Port × List Terminal) Stop
 inner_header a =
     cond (next_is Close a) (behind Close a >>= λ r. Ok ([], r)) (ports_at a >>= λ ps. behind Close ps.1 >>= λ r. Ok (ps.0, r))
 
-inner_header_reads : (ts a : List Terminal) (x : List Port × List Terminal) → Is (Mark Open) ts a → inner_header a ≡ Ok x → IsHeader x.0 ts x.1
+inner_header_reads : (ts a : List Terminal) (x : List Port × List Terminal) → Is (Fixed Open) ts a → inner_header a ≡ Ok x → IsHeader x.0 ts x.1
 unfolding inner_header
 inner_header_reads ts a x h e =
     ⊎_elim
@@ -426,14 +403,14 @@ module_reads limit ts x e =
       header = header_reads n.0.1 h.0 h.1;
       semicolon = behind_is Semicolon h.0.1 b.0 b.1;
       items = items_read limit (length b.0) tt b.0 s.0 s.1;
-      ends = behind_is EndModule s.0.1 c.0 c.1 ∙ ap (λ l. Mark EndModule ∷ l) (end_is c.0 d.0 d.1);
+      ends = behind_is EndModule s.0.1 c.0 c.1 ∙ ap (λ l. Fixed EndModule ∷ l) (end_is c.0 d.0 d.1);
     })
 
 -- What stands behind an expression, a part of an item or a port: a comma, a semicolon or a `)`.
 data Closes : List Terminal → Type 0 where
-  comma : {ts : List Terminal} → Closes (Mark Comma ∷ ts)
-  semicolon : {ts : List Terminal} → Closes (Mark Semicolon ∷ ts)
-  close : {ts : List Terminal} → Closes (Mark Close ∷ ts)
+  comma : {ts : List Terminal} → Closes (Fixed Comma ∷ ts)
+  semicolon : {ts : List Terminal} → Closes (Fixed Semicolon ∷ ts)
+  close : {ts : List Terminal} → Closes (Fixed Close ∷ ts)
 
 closes_ends : {ts : List Terminal} → Closes ts → Ends 3 ts
 closes_ends comma = record { none = λ j lt. refl }
@@ -456,7 +433,7 @@ Shorter {A = A} IsX = (x : A) (ts rest : List Terminal) → IsX x ts rest → le
 
 more_shorter : {A : Type 0} (IsX : A → Between) → Shorter IsX → (xs : List A) (ts rest : List Terminal) → AreMore IsX xs ts rest → length rest ≤ length ts
 more_shorter IsX f [] ts rest e = omega (arith, ap length e)
-more_shorter IsX f (x ∷ xs) ts rest (a, b, c, is, more) = omega (arith, is_shorter (Mark Comma) ts a c, f x a b is, more_shorter IsX f xs b rest more)
+more_shorter IsX f (x ∷ xs) ts rest (a, b, c, is, more) = omega (arith, is_shorter (Fixed Comma) ts a c, f x a b is, more_shorter IsX f xs b rest more)
 
 listed_shorter : {A : Type 0} (IsX : A → Between) → Shorter IsX → (xs : List A) (ts rest : List Terminal) → AreListed IsX xs ts rest → length rest ≤ length ts
 listed_shorter IsX f [] ts rest e = absurd e
@@ -467,12 +444,10 @@ name_shorter n ts rest e = omega (arith, is_shorter (Name n) ts rest e)
 
 gate_shorter : (limit : ℕ) (op : Op) → Shorter (IsGate limit op)
 gate_shorter limit op (gate o n es) ts rest (same, x, y, (a, b, c, d, p, q, r, s, t)) =
-    omega (arith, is_shorter (Mark Open) ts a p, is_shorter (Name n) a b q, is_shorter (Mark Comma) b c r, listed_shorter (IsExpr limit) (expr_shorter limit) es c d s, is_shorter (Mark Close) d rest t)
+    omega (arith, is_shorter (Fixed Open) ts a p, is_shorter (Name n) a b q, is_shorter (Fixed Comma) b c r, listed_shorter (IsExpr limit) (expr_shorter limit) es c d s, is_shorter (Fixed Close) d rest t)
 gate_shorter limit op (copies o ns e) ts rest (same, x, (a, b, c, d, p, q, r, s, t)) =
-    omega (arith, is_shorter (Mark Open) ts a p, listed_shorter IsName name_shorter ns a b q, is_shorter (Mark Comma) b c r, expr_shorter limit e c d s, is_shorter (Mark Close) d rest t)
-gate_shorter limit op (declaration d n) ts rest h = absurd h
-gate_shorter limit op (wire n e) ts rest h = absurd h
-gate_shorter limit op (assign n e) ts rest h = absurd h
+    omega (arith, is_shorter (Fixed Open) ts a p, listed_shorter IsName name_shorter ns a b q, is_shorter (Fixed Comma) b c r, expr_shorter limit e c d s, is_shorter (Fixed Close) d rest t)
+gate_shorter limit op _ ts rest h = absurd h
 
 pub label_shorter : (ts rest : List Terminal) → IsLabel ts rest → length rest ≤ length ts
 label_shorter ts rest (inl e) = omega (arith, ap length e)
@@ -480,7 +455,7 @@ label_shorter ts rest (inr (n, e)) = omega (arith, ap length e)
 
 wire_shorter : (limit : ℕ) (n : List ℕ) (e : Option Tree) (ts rest : List Terminal) → IsWire limit n e ts rest → length rest ≤ length ts
 wire_shorter limit n None ts rest h = omega (arith, is_shorter (Name n) ts rest h)
-wire_shorter limit n (Some e) ts rest (a, b, name, equals, expr) = omega (arith, is_shorter (Name n) ts a name, is_shorter (Mark Equals) a b equals, expr_shorter limit e b rest expr)
+wire_shorter limit n (Some e) ts rest (a, b, name, equals, expr) = omega (arith, is_shorter (Name n) ts a name, is_shorter (Fixed Equals) a b equals, expr_shorter limit e b rest expr)
 
 part_shorter : (limit : ℕ) (k : Kind) → Shorter (IsPart limit k)
 part_shorter limit (Declaration d) (declaration e n) ts rest h = omega (arith, is_shorter (Name n) ts rest h.1)
@@ -489,10 +464,10 @@ part_shorter limit Assign (assign n e) ts rest h = wire_shorter limit n (Some e)
 part_shorter limit (Gate op) p ts rest (a, l, g) = omega (arith, label_shorter ts a l, gate_shorter limit op p a rest g)
 part_shorter limit _ _ ts rest h = absurd h
 
-pub mark_again : (s : Sign) (ts rest : List Terminal) → Is (Mark s) ts rest → behind s ts ≡ Ok rest
+pub mark_again : (s : Mark) (ts rest : List Terminal) → Is (Fixed s) ts rest → behind s ts ≡ Ok rest
 mark_again s ts rest e = ap (behind s) e ∙ behind_mark s rest
 
-next_again : (s : Sign) (ts rest : List Terminal) → Is (Mark s) ts rest → next_is s ts ≡ true
+next_again : (s : Mark) (ts rest : List Terminal) → Is (Fixed s) ts rest → next_is s ts ≡ true
 next_again s ts rest e = ap is_ok (mark_again s ts rest e)
 
 pub name_again : (n : List ℕ) (ts rest : List Terminal) → IsName n ts rest → name_at ts ≡ Ok (n, rest)
@@ -510,7 +485,7 @@ more_closes : {A : Type 0} (IsX : A → Between) (xs : List A) (ts rest : List T
 more_closes IsX [] ts rest e c = subst Closes (sym e) c
 more_closes IsX (x ∷ xs) ts rest (a, b, e, is, more) c = subst Closes (sym e) comma
 
-step_again : {A : Type 0} (IsX : A → Between) (p : Reader A) → Whole IsX p → (s : Unit {0}) (x : A) (ts c rest : List Terminal) → Is (Mark Comma) ts c → IsX x c rest → Closes rest →
+step_again : {A : Type 0} (IsX : A → Between) (p : Reader A) → Whole IsX p → (s : Unit {0}) (x : A) (ts c rest : List Terminal) → Is (Fixed Comma) ts c → IsX x c rest → Closes rest →
     comma_step p s ts ≡ Ok ((x, s), rest)
 step_again IsX p f s x ts c rest e is d = rw (mark_again Comma ts c e, f x c rest is d) refl
 
@@ -518,7 +493,7 @@ pub comma_repeats : {A : Type 0} (IsX : A → Between) (p : Reader A) → Reads 
 comma_repeats IsX p f g = record {
   less = λ s ts x e.
       let one = step_reads IsX p f s ts x e in
-      omega (arith, is_shorter (Mark Comma) ts one.0 one.1, g x.0.0 one.0 x.1 one.2);
+      omega (arith, is_shorter (Fixed Comma) ts one.0 one.1, g x.0.0 one.0 x.1 one.2);
   stops = λ s. refl;
 }
 
@@ -536,10 +511,10 @@ listed_again IsX p f h [] ts rest e c n = absurd e
 listed_again IsX p f h (x ∷ xs) ts rest (a, is, more) c n =
     rw (f x ts a is (more_closes IsX xs a rest more c), more_again IsX p f h xs tt a rest more c n) refl
 
-closes_by : (s : Sign) (ts rest : List Terminal) → Closes (Mark s ∷ rest) → Is (Mark s) ts rest → Closes ts
+closes_by : (s : Mark) (ts rest : List Terminal) → Closes (Fixed s ∷ rest) → Is (Fixed s) ts rest → Closes ts
 closes_by s ts rest c e = subst Closes (sym e) c
 
-pub not_comma : (s : Sign) (ts rest : List Terminal) → next_is Comma (Mark s ∷ rest) ≡ false → Is (Mark s) ts rest → next_is Comma ts ≡ false
+pub not_comma : (s : Mark) (ts rest : List Terminal) → next_is Comma (Fixed s ∷ rest) ≡ false → Is (Fixed s) ts rest → next_is Comma ts ≡ false
 not_comma s ts rest c e = ap (next_is Comma) e ∙ c
 
 wire_again : (limit : ℕ) (n : List ℕ) (e : Option Tree) (ts rest : List Terminal) → IsWire limit n e ts rest → Closes rest → wire_at limit ts ≡ Ok (wire n e, rest)
@@ -553,15 +528,15 @@ unfolding assign_at
 assign_again limit n e ts rest (a, b, name, equals, expr) c =
     rw (name_again n ts a name, mark_again Equals a b equals, expression_again limit e b rest expr c) refl
 
-many_again : (limit : ℕ) (op : Op) (n : List ℕ) (es : List Tree) (ts d rest : List Terminal) → AreListed (IsExpr limit) es ts d → Is (Mark Close) d rest → many_at limit op n ts ≡ Ok (gate op n es, d)
+many_again : (limit : ℕ) (op : Op) (n : List ℕ) (es : List Tree) (ts d rest : List Terminal) → AreListed (IsExpr limit) es ts d → Is (Fixed Close) d rest → many_at limit op n ts ≡ Ok (gate op n es, d)
 unfolding many_at
 many_again limit op n es ts d rest h e =
     rw (listed_again (IsExpr limit) (expression limit) (expression_again limit) (comma_repeats (IsExpr limit) (expression limit) (expression_reads limit) (expr_shorter limit)) es ts d h
     (closes_by Close d rest close e) (not_comma Close d rest refl e)) refl
 
 -- Names behind each other begin as an expression that is the first of them.
-names_from : (limit : ℕ) (ns : List (List ℕ)) (e : Tree) (m b c d : List Terminal) → AreMore IsName ns m b → Is (Mark Comma) b c → IsExpr limit e c d →
-    (t : Tree) × (i : List Terminal) × (k : List Terminal) × Is (Mark Comma) m i × IsExpr limit t i k × AreNames limit t ns e k d
+names_from : (limit : ℕ) (ns : List (List ℕ)) (e : Tree) (m b c d : List Terminal) → AreMore IsName ns m b → Is (Fixed Comma) b c → IsExpr limit e c d →
+    (t : Tree) × (i : List Terminal) × (k : List Terminal) × Is (Fixed Comma) m i × IsExpr limit t i k × AreNames limit t ns e k d
 names_from limit [] e m b c d same h f = (e, c, d, same ∙ h, f, (refl, refl))
 names_from limit (n ∷ ns) e m b c d (a, q, h, name, more) g f =
     let r = names_from limit ns e q b c d more g f in
@@ -575,11 +550,11 @@ pub names_repeat : (limit : ℕ) → Repeats comma_behind_net (name_and_expressi
 names_repeat limit = record {
   less = λ s ts x e.
       let one = name_step_reads limit s ts x e in
-      omega (arith, is_shorter (Mark Comma) ts one.0 one.2, expr_shorter limit x.0.1 one.0 x.1 one.3);
+      omega (arith, is_shorter (Fixed Comma) ts one.0 one.2, expr_shorter limit x.0.1 one.0 x.1 one.3);
   stops = λ s. refl;
 }
 
-name_step_again : (limit : ℕ) (n : List ℕ) (v : Tree) (ts c d : List Terminal) → Is (Mark Comma) ts c → IsExpr limit v c d → Closes d → name_and_expression limit (net n) ts ≡ Ok ((n, v), d)
+name_step_again : (limit : ℕ) (n : List ℕ) (v : Tree) (ts c d : List Terminal) → Is (Fixed Comma) ts c → IsExpr limit v c d → Closes d → name_and_expression limit (net n) ts ≡ Ok ((n, v), d)
 name_step_again limit n v ts c d e f g = rw (mark_again Comma ts c e, expression_again limit v c d f g) refl
 
 pub comma_and : (b : Bool) (ts : List Terminal) → next_is Comma ts ≡ false → next_is Comma ts && b ≡ false
@@ -594,8 +569,8 @@ names_again limit t (n ∷ ns) u ts rest (v, a, b, is, e, f, g) c k =
     (name_step_again limit n v ts a b e f (names_close limit v ns u b rest g c))
     ∙ ap (ahead_of (n ∷ [])) (names_again limit v ns u b rest g c k))
 
-few_again : (limit : ℕ) (op : Op) (n : List ℕ) (ns : List (List ℕ)) (e : Tree) (m b c d rest : List Terminal) → AreMore IsName ns m b → Is (Mark Comma) b c → IsExpr limit e c d → Is (Mark Close) d rest →
-    (i : List Terminal) × Is (Mark Comma) m i × (few_at limit op n i ≡ Ok (copies op (n ∷ ns) e, d))
+few_again : (limit : ℕ) (op : Op) (n : List ℕ) (ns : List (List ℕ)) (e : Tree) (m b c d rest : List Terminal) → AreMore IsName ns m b → Is (Fixed Comma) b c → IsExpr limit e c d → Is (Fixed Close) d rest →
+    (i : List Terminal) × Is (Fixed Comma) m i × (few_at limit op n i ≡ Ok (copies op (n ∷ ns) e, d))
 unfolding few_at
 few_again limit op n ns e m b c d rest more h f g =
     let r = names_from limit ns e m b c d more h f in
@@ -609,14 +584,9 @@ connections_few limit op n ts (inr e) = rw e refl
 connections_many : (limit : ℕ) (op : Op) (n : List ℕ) (ts : List Terminal) → op ≢ Buf → op ≢ Not → connections_at limit op n ts ≡ many_at limit op n ts
 connections_many limit Buf n ts f g = absurd (f refl)
 connections_many limit Not n ts f g = absurd (g refl)
-connections_many limit And n ts f g = refl
-connections_many limit Or n ts f g = refl
-connections_many limit Nand n ts f g = refl
-connections_many limit Nor n ts f g = refl
-connections_many limit Xor n ts f g = refl
-connections_many limit Xnor n ts f g = refl
+connections_many limit _ n ts f g = refl
 
-past_label : (ts a b : List Terminal) → IsLabel ts a → Is (Mark Open) a b → past_name ts ≡ a
+past_label : (ts a b : List Terminal) → IsLabel ts a → Is (Fixed Open) a b → past_name ts ≡ a
 past_label ts a b (inl e) h = rw e (rw h refl)
 past_label ts a b (inr (n, e)) h = rw e refl
 
@@ -628,9 +598,7 @@ gate_again limit op (copies o [] e) ts l rest label (same, which, (a, b, c, d, o
 gate_again limit op (copies o (n ∷ ns) e) ts l rest label (same, which, (a, b, c, d, opens, (m, name, more), h, expr, closing)) =
     let few = few_again limit op n ns e m b c d rest more h expr closing in
     rw (past_label ts l a label opens, mark_again Open l a opens, name_again n a m name, mark_again Comma m few.0 few.1, connections_few limit op n few.0 which, few.2, mark_again Close d rest closing, same) refl
-gate_again limit op (declaration d n) ts l rest label h = absurd h
-gate_again limit op (wire n e) ts l rest label h = absurd h
-gate_again limit op (assign n e) ts l rest label h = absurd h
+gate_again limit op _ ts l rest label h = absurd h
 
 part_again : (limit : ℕ) (k : Kind) → Whole (IsPart limit k) (part_at limit k)
 part_again limit (Declaration d) (declaration e n) ts rest h c = rw (name_again n ts rest h.1, h.0) refl
@@ -639,16 +607,13 @@ part_again limit Assign (assign n e) ts rest h c = assign_again limit n e ts res
 part_again limit (Gate op) p ts rest (l, label, g) c = gate_again limit op p ts l rest label g
 part_again limit _ _ ts rest h c = absurd h
 
-past_optional : (ts a b : List Terminal) (n : List ℕ) → IsOptional (Mark WireWord) ts a → IsName n a b → past WireWord ts ≡ a
+past_optional : (ts a b : List Terminal) (n : List ℕ) → IsOptional (Fixed WireWord) ts a → IsName n a b → past WireWord ts ≡ a
 past_optional ts a b n (inl e) h = rw e (rw h refl)
 past_optional ts a b n (inr e) h = rw e refl
 
 declared_first : (limit : ℕ) (d : Direction) (p : PartTree) (ts rest : List Terminal) → IsPart limit (Declaration d) p ts rest → (n : List ℕ) × IsName n ts rest
 declared_first limit d (declaration e n) ts rest h = (n, h.1)
-declared_first limit d (wire n e) ts rest h = absurd h
-declared_first limit d (assign n e) ts rest h = absurd h
-declared_first limit d (gate o n e) ts rest h = absurd h
-declared_first limit d (copies o n e) ts rest h = absurd h
+declared_first limit d _ ts rest h = absurd h
 
 direction_word : (d : Direction) (a : List Terminal) → kind_at (word d ∷ a) ≡ Ok (Declaration d, past WireWord a)
 direction_word Input a = refl
@@ -690,14 +655,14 @@ optional_shorter t ts rest (inl e) = omega (arith, ap length e)
 optional_shorter t ts rest (inr e) = omega (arith, ap length e)
 
 pub head_shorter : (k : Kind) (ts rest : List Terminal) → IsHead k ts rest → length rest < length ts
-head_shorter (Declaration d) ts rest (a, e, o) = omega (arith, is_shorter (word d) ts a e, optional_shorter (Mark WireWord) a rest o)
-head_shorter Wire ts rest e = is_shorter (Mark WireWord) ts rest e
-head_shorter Assign ts rest e = is_shorter (Mark AssignWord) ts rest e
+head_shorter (Declaration d) ts rest (a, e, o) = omega (arith, is_shorter (word d) ts a e, optional_shorter (Fixed WireWord) a rest o)
+head_shorter Wire ts rest e = is_shorter (Fixed WireWord) ts rest e
+head_shorter Assign ts rest e = is_shorter (Fixed AssignWord) ts rest e
 head_shorter (Gate op) ts rest e = is_shorter (GateWord op) ts rest e
 
 item_shorter : (limit : ℕ) (ps : List PartTree) (ts rest : List Terminal) → IsItem limit ps ts rest → length rest < length ts
 item_shorter limit ps ts rest (k, a, b, head, listed, e) =
-    omega (arith, head_shorter k ts a head, listed_shorter (IsPart limit k) (part_shorter limit k) ps a b listed, is_shorter (Mark Semicolon) b rest e)
+    omega (arith, head_shorter k ts a head, listed_shorter (IsPart limit k) (part_shorter limit k) ps a b listed, is_shorter (Fixed Semicolon) b rest e)
 
 pub items_repeat : (limit : ℕ) → Repeats item_next (one_item limit)
 items_repeat limit = record {
@@ -715,7 +680,7 @@ items_again limit s (i ∷ items) ts rest (a, item, more) n =
 plain_again : (words : Bool) (d : Option Direction) (p : Port) (ts rest : List Terminal) → IsPlain d p ts rest → port_at words d ts ≡ Ok (p, rest)
 plain_again words d p ts rest (same, name) = rw name (ap (λ (e : Option Direction). let x : Port × List Terminal = (record { name = p.name; direction = e }, rest) in Ok x) (sym same))
 
-word_port : (d : Option Direction) (e : Direction) (ts : List Terminal) → port_at true d (word e ∷ ts) ≡ directed e ts
+word_port : (d : Option Direction) (e : Direction) (ts : List Terminal) → port_at true d (word e ∷ ts) ≡ port_behind e ts
 word_port d Input ts = refl
 word_port d Output ts = refl
 
@@ -731,13 +696,13 @@ behind_port_again : (d : Option Direction) (p : Port) (ts rest : List Terminal) 
 behind_port_again d p ts rest (inl h) = plain_again (is_some d) d p ts rest h
 behind_port_again d p ts rest (inr (some, h)) = rw (some_to d some) (directed_again d p ts rest h)
 
-comma_port_again : (d : Option Direction) (p : Port) (ts c rest : List Terminal) → Is (Mark Comma) ts c → (IsPlain d p c rest ⊎ (IsSome d × IsDirected p c rest)) →
+comma_port_again : (d : Option Direction) (p : Port) (ts c rest : List Terminal) → Is (Fixed Comma) ts c → (IsPlain d p c rest ⊎ (IsSome d × IsDirected p c rest)) →
     comma_port d ts ≡ Ok ((p, p.direction), rest)
 comma_port_again d p ts c rest e h = rw (mark_again Comma ts c e, behind_port_again d p c rest h) refl
 
 directed_shorter : (p : Port) (ts rest : List Terminal) → IsDirected p ts rest → length rest ≤ length ts
 directed_shorter p ts rest (d, a, same, (c, e, o), name) =
-    omega (arith, is_shorter (word d) ts c e, optional_shorter (Mark WireWord) c a o, is_shorter (Name p.name) a rest name)
+    omega (arith, is_shorter (word d) ts c e, optional_shorter (Fixed WireWord) c a o, is_shorter (Name p.name) a rest name)
 
 port_shorter : (words : Bool) (d : Option Direction) (p : Port) (ts rest : List Terminal) → IsPort words d p ts rest → length rest ≤ length ts
 port_shorter words d p ts rest (inl h) = omega (arith, is_shorter (Name p.name) ts rest h.1)
@@ -747,7 +712,7 @@ pub ports_repeat : Repeats port_next comma_port
 ports_repeat = record {
   less = λ d ts x e.
       let one = comma_port_reads d ts x e in
-      omega (arith, is_shorter (Mark Comma) ts one.0 one.1, port_shorter (is_some d) d x.0.0 one.0 x.1 one.2);
+      omega (arith, is_shorter (Fixed Comma) ts one.0 one.1, port_shorter (is_some d) d x.0.0 one.0 x.1 one.2);
   stops = λ d. refl;
 }
 

@@ -6,7 +6,7 @@ use Rattle.bx_lex.specs.declared.token.Token.{Token}
 use Rattle.bx_lex.specs.Tokens.{AreSpans}
 use Rattle.bx_logic.specs.declared.op.Op.{Op}
 use Rattle.bx_syntax.specs.declared.terminal.Terminal.{Terminal}
-use Rattle.bx_syntax.specs.declared.terminal.Terminal.TheVariants.{Mark, Name}
+use Rattle.bx_syntax.specs.declared.terminal.Terminal.TheVariants.{Fixed, Name}
 use Rattle.bx_syntax.specs.declared.terminal.Mark.TheVariants.{Module as ModuleWord, Open, Close, Comma, Semicolon, Equals}
 use Rattle.bx_syntax.specs.declared.tree.Direction.{Direction}
 use Rattle.bx_syntax.specs.declared.tree.Port.{Port}
@@ -38,7 +38,7 @@ Fits {A = A} count IsX = (x : A) (ts rest : List Terminal) → IsX x ts rest →
 more_fits : {A : Type 0} (count : A → ℕ) (IsX : A → Between) → Fits count IsX → (xs : List A) (ts rest : List Terminal) → AreMore IsX xs ts rest →
     sum_by count xs + length rest ≤ length ts
 more_fits count IsX f [] ts rest e = omega (arith, ap length e)
-more_fits count IsX f (x ∷ xs) ts rest (a, b, c, is, more) = omega (arith, sum_by-cons count x xs, is_shorter (Mark Comma) ts a c, f x a b is, more_fits count IsX f xs b rest more)
+more_fits count IsX f (x ∷ xs) ts rest (a, b, c, is, more) = omega (arith, sum_by-cons count x xs, is_shorter (Fixed Comma) ts a c, f x a b is, more_fits count IsX f xs b rest more)
 
 listed_fits : {A : Type 0} (count : A → ℕ) (IsX : A → Between) → Fits count IsX → (xs : List A) (ts rest : List Terminal) → AreListed IsX xs ts rest →
     sum_by count xs + length rest ≤ length ts
@@ -59,16 +59,14 @@ module _ (limit : ℕ) where
   wire_fits : (n : List ℕ) (e : Option Tree) (ts rest : List Terminal) → IsWire limit n e ts rest → part_size (wire n e) + length rest ≤ length ts
   wire_fits n None ts rest h = omega (arith, is_shorter (Name n) ts rest h)
   wire_fits n (Some e) ts rest (a, b, name, equals, expr) =
-      omega (arith, is_shorter (Name n) ts a name, is_shorter (Mark Equals) a b equals, expr_fits e b rest expr)
+      omega (arith, is_shorter (Name n) ts a name, is_shorter (Fixed Equals) a b equals, expr_fits e b rest expr)
 
   gate_fits : (op : Op) → Fits part_size (IsGate limit op)
   gate_fits op (gate o n es) ts rest (same, x, y, (a, b, c, d, p, q, r, s, t)) =
-      omega (arith, is_shorter (Mark Open) ts a p, is_shorter (Name n) a b q, is_shorter (Mark Comma) b c r, listed_fits tree_size (IsExpr limit) expr_fits es c d s, is_shorter (Mark Close) d rest t)
+      omega (arith, is_shorter (Fixed Open) ts a p, is_shorter (Name n) a b q, is_shorter (Fixed Comma) b c r, listed_fits tree_size (IsExpr limit) expr_fits es c d s, is_shorter (Fixed Close) d rest t)
   gate_fits op (copies o ns e) ts rest (same, x, (a, b, c, d, p, q, r, s, t)) =
-      omega (arith, is_shorter (Mark Open) ts a p, listed_fits (λ n. 1) IsName name_fits ns a b q, names_count ns, is_shorter (Mark Comma) b c r, expr_fits e c d s, is_shorter (Mark Close) d rest t)
-  gate_fits op (declaration d n) ts rest h = absurd h
-  gate_fits op (wire n e) ts rest h = absurd h
-  gate_fits op (assign n e) ts rest h = absurd h
+      omega (arith, is_shorter (Fixed Open) ts a p, listed_fits (λ n. 1) IsName name_fits ns a b q, names_count ns, is_shorter (Fixed Comma) b c r, expr_fits e c d s, is_shorter (Fixed Close) d rest t)
+  gate_fits op _ ts rest h = absurd h
 
   part_fits : (k : Kind) → Fits part_size (IsPart limit k)
   part_fits (Declaration d) (declaration e n) ts rest h = omega (arith, is_shorter (Name n) ts rest h.1)
@@ -80,7 +78,7 @@ module _ (limit : ℕ) where
   items_fit : (items : List (List PartTree)) (ts rest : List Terminal) → AreItems limit items ts rest → sum_by item_size items + length rest ≤ length ts
   items_fit [] ts rest e = omega (arith, ap length e)
   items_fit (i ∷ items) ts rest (a, (k, b, c, head, listed, e), more) =
-      omega (arith, sum_by-cons item_size i items, head_shorter k ts b head, listed_fits part_size (IsPart limit k) (part_fits k) i b c listed, is_shorter (Mark Semicolon) c a e, items_fit items a rest more)
+      omega (arith, sum_by-cons item_size i items, head_shorter k ts b head, listed_fits part_size (IsPart limit k) (part_fits k) i b c listed, is_shorter (Fixed Semicolon) c a e, items_fit items a rest more)
 
 directed_fits : (p : Port) (ts rest : List Terminal) → IsDirected p ts rest → 1 + length rest ≤ length ts
 directed_fits p ts rest (d, a, same, heads, name) = omega (arith, head_shorter (Declaration d) ts a heads, is_shorter (Name p.name) a rest name)
@@ -88,9 +86,9 @@ directed_fits p ts rest (d, a, same, heads, name) = omega (arith, head_shorter (
 ports_behind_fit : (d : Option Direction) (ps : List Port) (ts rest : List Terminal) → ArePortsBehind d ps ts rest → length ps + length rest ≤ length ts
 ports_behind_fit d [] ts rest e = omega (arith, ap length e)
 ports_behind_fit d (p ∷ ps) ts rest (a, b, c, inl plain, more) =
-    omega (arith, is_shorter (Mark Comma) ts a c, is_shorter (Name p.name) a b plain.1, ports_behind_fit p.direction ps b rest more)
+    omega (arith, is_shorter (Fixed Comma) ts a c, is_shorter (Name p.name) a b plain.1, ports_behind_fit p.direction ps b rest more)
 ports_behind_fit d (p ∷ ps) ts rest (a, b, c, inr directed, more) =
-    omega (arith, is_shorter (Mark Comma) ts a c, directed_fits p a b directed.1, ports_behind_fit p.direction ps b rest more)
+    omega (arith, is_shorter (Fixed Comma) ts a c, directed_fits p a b directed.1, ports_behind_fit p.direction ps b rest more)
 
 ports_fit : (ps : List Port) (ts rest : List Terminal) → ArePorts ps ts rest → length ps + length rest ≤ length ts
 ports_fit [] ts rest h = absurd h
@@ -100,18 +98,18 @@ ports_fit (p ∷ ps) ts rest (a, inr directed, more) = omega (arith, directed_fi
 header_fits : (ps : List Port) (ts rest : List Terminal) → IsHeader ps ts rest → length ps + length rest ≤ length ts
 header_fits ps ts rest (inl (none, same)) = omega (arith, ap length none, ap length same)
 header_fits ps ts rest (inr (a, b, opens, inl (none, same), closing)) =
-    omega (arith, is_shorter (Mark Open) ts a opens, ap length none, ap length same, is_shorter (Mark Close) b rest closing)
+    omega (arith, is_shorter (Fixed Open) ts a opens, ap length none, ap length same, is_shorter (Fixed Close) b rest closing)
 header_fits ps ts rest (inr (a, b, opens, inr ports, closing)) =
-    omega (arith, is_shorter (Mark Open) ts a opens, ports_fit ps a b ports, is_shorter (Mark Close) b rest closing)
+    omega (arith, is_shorter (Fixed Open) ts a opens, ports_fit ps a b ports, is_shorter (Fixed Close) b rest closing)
 
 pub module_fits : (limit : ℕ) (m : ModuleTree) (ts : List Terminal) → IsModule limit m ts → module_size m ≤ length ts
 module_fits limit m ts h =
     omega (
       arith,
-      is_shorter (Mark ModuleWord) ts h.named h.begins,
+      is_shorter (Fixed ModuleWord) ts h.named h.begins,
       is_shorter (Name m.name) h.named h.headed h.name,
       header_fits m.ports h.headed h.ended h.header,
-      is_shorter (Mark Semicolon) h.ended h.body h.semicolon,
+      is_shorter (Fixed Semicolon) h.ended h.body h.semicolon,
       items_fit limit m.items h.body h.last h.items,
     )
 

@@ -8,8 +8,8 @@ use Rattle.std.proofs.lemmas.Bool.Decides.{eqb_tells}
 use Rattle.bx_logic.specs.declared.op.Op.{Op}
 use Rattle.bx_logic.specs.declared.op.Op.TheVariants.{Buf, Not}
 use Rattle.bx_syntax.specs.declared.terminal.Terminal.{Terminal}
-use Rattle.bx_syntax.specs.declared.terminal.Terminal.TheVariants.{Mark, Gate as GateWord, Name, Bit}
-use Rattle.bx_syntax.specs.declared.terminal.Mark.{Mark as Sign}
+use Rattle.bx_syntax.specs.declared.terminal.Terminal.TheVariants.{Fixed, GateWord, Name, Bit}
+use Rattle.bx_syntax.specs.declared.terminal.Mark.{Mark}
 use Rattle.bx_syntax.specs.declared.terminal.Mark.TheVariants.{Module as ModuleWord, EndModule, Input as InputWord, Output as OutputWord, Wire as WireWord, Open, Close, Comma, Semicolon, Equals, Tilde}
 use Rattle.bx_syntax.specs.declared.stop.Stop.{Stop}
 use Rattle.bx_syntax.specs.declared.stop.Stop.TheVariants.{Bad, Deep}
@@ -24,7 +24,7 @@ use Rattle.bx_syntax.proofs.ReadsExpressions.{behind_is}
 
 pub data Symbol : Type 0 where
   -- a mark
-  mark : Sign → Symbol
+  mark : Mark → Symbol
   -- `wire`, or nothing
   maybe_wire : Symbol
   -- a name, and a name or nothing
@@ -84,68 +84,68 @@ abbrev pub at_item : Option Kind → Reply
 at_item (Some kind) = takes (head kind (item kind []))
 at_item None = stuck Item
 
-abbrev pub at_mark : Sign → Sign → Reply → Reply
+abbrev pub at_mark : Mark → Mark → Reply → Reply
 at_mark s r other = cond (nat_eq (number r) (number s)) (takes []) other
 
 abbrev pub at_comma : Stack → Terminal → Reply
-at_comma more (Mark Comma) = takes more
+at_comma more (Fixed Comma) = takes more
 at_comma more _ = passed
 
 abbrev pub at_operator : ℕ → Option Operator → Reply
 at_operator n (Some o) = takes (primary n ∷ operators n ∷ [])
 at_operator n None = passed
 
-abbrev pub directed : Stack
-directed = maybe_wire ∷ name ∷ []
+abbrev pub port_with_word : Stack
+port_with_word = maybe_wire ∷ name ∷ []
 
 -- a module
 abbrev pub start : Stack
 start = mark ModuleWord ∷ name ∷ header ∷ mark Semicolon ∷ items ∷ []
 
 abbrev pub reply : Symbol → Terminal → Reply
-reply (mark s) (Mark r) = at_mark s r (stuck Other)
+reply (mark s) (Fixed r) = at_mark s r (stuck Other)
 reply (mark s) _ = stuck Other
-reply maybe_wire (Mark WireWord) = takes []
+reply maybe_wire (Fixed WireWord) = takes []
 reply maybe_wire _ = passed
 reply name (Name n) = takes []
 reply name _ = stuck Other
 reply label (Name n) = takes []
 reply label _ = passed
-reply header (Mark Open) = takes (in_header ∷ [])
+reply header (Fixed Open) = takes (in_header ∷ [])
 reply header _ = passed
-reply in_header (Mark Close) = takes []
-reply in_header (Mark InputWord) = takes (maybe_wire ∷ name ∷ directed_ports ∷ mark Close ∷ [])
-reply in_header (Mark OutputWord) = takes (maybe_wire ∷ name ∷ directed_ports ∷ mark Close ∷ [])
+reply in_header (Fixed Close) = takes []
+reply in_header (Fixed InputWord) = takes (maybe_wire ∷ name ∷ directed_ports ∷ mark Close ∷ [])
+reply in_header (Fixed OutputWord) = takes (maybe_wire ∷ name ∷ directed_ports ∷ mark Close ∷ [])
 reply in_header (Name n) = takes (plain_ports ∷ mark Close ∷ [])
 reply in_header _ = stuck Other
 reply plain_ports t = at_comma (name ∷ plain_ports ∷ []) t
 reply directed_ports t = at_comma (port ∷ directed_ports ∷ []) t
 reply port (Name n) = takes []
-reply port (Mark InputWord) = takes directed
-reply port (Mark OutputWord) = takes directed
+reply port (Fixed InputWord) = takes port_with_word
+reply port (Fixed OutputWord) = takes port_with_word
 reply port _ = stuck Other
-reply items (Mark EndModule) = takes []
-reply items (Mark s) = at_item (kind_of s)
+reply items (Fixed EndModule) = takes []
+reply items (Fixed s) = at_item (kind_of s)
 reply items (GateWord op) = takes (item (Gate op) [])
 reply items _ = stuck Item
 reply (parts kind) t = at_comma (part kind (parts kind ∷ [])) t
-reply driver (Mark Equals) = takes (primary 0 ∷ operators 0 ∷ [])
+reply driver (Fixed Equals) = takes (primary 0 ∷ operators 0 ∷ [])
 reply driver _ = passed
 reply (primary n) (Name _) = takes []
 reply (primary n) (Bit _) = takes []
-reply (primary n) (Mark Tilde) = nests n (primary (suc n) ∷ [])
-reply (primary n) (Mark Open) = nests n (primary (suc n) ∷ operators (suc n) ∷ mark Close ∷ [])
+reply (primary n) (Fixed Tilde) = nests n (primary (suc n) ∷ [])
+reply (primary n) (Fixed Open) = nests n (primary (suc n) ∷ operators (suc n) ∷ mark Close ∷ [])
 reply (primary n) _ = stuck Primary
-reply (operators n) (Mark s) = at_operator n (operator_of s)
+reply (operators n) (Fixed s) = at_operator n (operator_of s)
 reply (operators n) _ = passed
 reply arguments t = at_comma (primary 0 ∷ operators 0 ∷ arguments ∷ []) t
 reply few (Name n) = takes (behind_name ∷ [])
 reply few (Bit _) = takes (operators 0 ∷ [])
-reply few (Mark Tilde) = nests 0 (primary 1 ∷ operators 0 ∷ [])
-reply few (Mark Open) = nests 0 (primary 1 ∷ operators 1 ∷ mark Close ∷ operators 0 ∷ [])
+reply few (Fixed Tilde) = nests 0 (primary 1 ∷ operators 0 ∷ [])
+reply few (Fixed Open) = nests 0 (primary 1 ∷ operators 1 ∷ mark Close ∷ operators 0 ∷ [])
 reply few _ = stuck Primary
-reply behind_name (Mark Comma) = takes (few ∷ [])
-reply behind_name (Mark s) = at_operator 0 (operator_of s)
+reply behind_name (Fixed Comma) = takes (few ∷ [])
+reply behind_name (Fixed s) = at_operator 0 (operator_of s)
 reply behind_name _ = passed
 
 -- what a stack does at a terminal
@@ -160,9 +160,9 @@ pub data Run : Type 0 where
   unfinished : Run
   stopped : Stop → Run
 
-abbrev pub ended : Stack → Run
-ended [] = done
-ended (x ∷ rest) = unfinished
+abbrev pub end_run : Stack → Run
+end_run [] = done
+end_run (x ∷ rest) = unfinished
 
 -- a reader stops as the stack does; at the end of the terminals nothing is said of what is wanted
 abbrev pub Agrees : Stop → Run → Type 0
@@ -181,14 +181,14 @@ module _ (limit : ℕ) where
   move [] t = bad End
   move (x ∷ rest) t = answer (reply x t) rest (move rest t)
 
-  abbrev pub moved : Move → (Stack → Run) → List Terminal → Run
-  moved (goes next) onward ts = onward next
-  moved (bad wanted) onward ts = stopped (Bad (length ts) wanted)
-  moved deep onward ts = stopped (Deep (length ts))
+  abbrev pub move_run : Move → (Stack → Run) → List Terminal → Run
+  move_run (goes next) onward ts = onward next
+  move_run (bad wanted) onward ts = stopped (Bad (length ts) wanted)
+  move_run deep onward ts = stopped (Deep (length ts))
 
   abbrev pub run : Stack → List Terminal → Run
-  run stack [] = ended stack
-  run stack (t ∷ ts) = moved (move stack t) (λ next. run next ts) (t ∷ ts)
+  run stack [] = end_run stack
+  run stack (t ∷ ts) = move_run (move stack t) (λ next. run next ts) (t ∷ ts)
 
   -- what a reader answers is where the stack goes, or stops
   abbrev pub Leads : {X : Type 0} → (X → List Terminal) → Stack → (X → Stack) → List Terminal → Result X Stop → Type 0
@@ -206,24 +206,24 @@ module _ (limit : ℕ) where
 
   -- marks and names
 
-  run_mark : (s r : Sign) (rest : Stack) (ts : List Terminal) → nat_eq (number r) (number s) ≡ true → run (mark s ∷ rest) (Mark r ∷ ts) ≡ run rest ts
+  run_mark : (s r : Mark) (rest : Stack) (ts : List Terminal) → nat_eq (number r) (number s) ≡ true → run (mark s ∷ rest) (Fixed r ∷ ts) ≡ run rest ts
   run_mark s r rest ts e = rw e refl
 
-  run_other : (s r : Sign) (rest : Stack) (ts : List Terminal) → nat_eq (number r) (number s) ≡ false → run (mark s ∷ rest) (Mark r ∷ ts) ≡ stopped (Bad (suc (length ts)) Other)
+  run_other : (s r : Mark) (rest : Stack) (ts : List Terminal) → nat_eq (number r) (number s) ≡ false → run (mark s ∷ rest) (Fixed r ∷ ts) ≡ stopped (Bad (suc (length ts)) Other)
   run_other s r rest ts e = rw e refl
 
-  behind_yes : (s r : Sign) (ts : List Terminal) → nat_eq (number r) (number s) ≡ true → behind s (Mark r ∷ ts) ≡ Ok ts
+  behind_yes : (s r : Mark) (ts : List Terminal) → nat_eq (number r) (number s) ≡ true → behind s (Fixed r ∷ ts) ≡ Ok ts
   behind_yes s r ts e = rw e refl
 
-  behind_no : (s r : Sign) (ts : List Terminal) → nat_eq (number r) (number s) ≡ false → behind s (Mark r ∷ ts) ≡ stops Other (Mark r ∷ ts)
+  behind_no : (s r : Mark) (ts : List Terminal) → nat_eq (number r) (number s) ≡ false → behind s (Fixed r ∷ ts) ≡ stops Other (Fixed r ∷ ts)
   behind_no s r ts e = rw e refl
 
-  pub mark_leads : (s : Sign) (rest : Stack) (ts : List Terminal) → Leads (λ us. us) (mark s ∷ rest) (λ _. rest) ts (behind s ts)
+  pub mark_leads : (s : Mark) (rest : Stack) (ts : List Terminal) → Leads (λ us. us) (mark s ∷ rest) (λ _. rest) ts (behind s ts)
   mark_leads s rest [] = (Other, refl)
-  mark_leads s rest (Mark r ∷ ts) =
+  mark_leads s rest (Fixed r ∷ ts) =
       ⊎_elim
-      (λ same. subst (λ (o : Result (List Terminal) Stop). Leads (λ us. us) (mark s ∷ rest) (λ _. rest) (Mark r ∷ ts) o) (sym (behind_yes s r ts same.0)) (run_mark s r rest ts same.0))
-      (λ other. subst (λ (o : Result (List Terminal) Stop). Leads (λ us. us) (mark s ∷ rest) (λ _. rest) (Mark r ∷ ts) o) (sym (behind_no s r ts other.0)) (subst (Agrees (Bad (suc (length ts)) Other)) (sym (run_other s r rest ts other.0)) refl))
+      (λ same. subst (λ (o : Result (List Terminal) Stop). Leads (λ us. us) (mark s ∷ rest) (λ _. rest) (Fixed r ∷ ts) o) (sym (behind_yes s r ts same.0)) (run_mark s r rest ts same.0))
+      (λ other. subst (λ (o : Result (List Terminal) Stop). Leads (λ us. us) (mark s ∷ rest) (λ _. rest) (Fixed r ∷ ts) o) (sym (behind_no s r ts other.0)) (subst (Agrees (Bad (suc (length ts)) Other)) (sym (run_other s r rest ts other.0)) refl))
       (eqb_tells (number r) (number s))
   mark_leads s rest (_ ∷ ts) = refl
 
@@ -235,31 +235,28 @@ module _ (limit : ℕ) where
   -- what may be left out
 
   pub label_passed : (x : Symbol) (rest : Stack) (ts : List Terminal) → run (label ∷ x ∷ rest) ts ≡ run (x ∷ rest) (past_name ts)
-  label_passed x rest [] = refl
   label_passed x rest (Name n ∷ ts) = refl
-  label_passed x rest (_ ∷ ts) = refl
+  label_passed x rest _ = refl
 
   pub wire_passed : (x : Symbol) (rest : Stack) (ts : List Terminal) → run (maybe_wire ∷ x ∷ rest) ts ≡ run (x ∷ rest) (past WireWord ts)
-  wire_passed x rest [] = refl
-  wire_passed x rest (Mark WireWord ∷ ts) = refl
-  wire_passed x rest (Mark _ ∷ ts) = refl
-  wire_passed x rest (_ ∷ ts) = refl
+  wire_passed x rest (Fixed WireWord ∷ ts) = refl
+  wire_passed x rest _ = refl
 
   -- behind a comma
 
-  pub mark_front : (s : Sign) (ts : List Terminal) → next_is s ts ≡ true → (rest : List Terminal) × (ts ≡ Mark s ∷ rest)
+  pub mark_front : (s : Mark) (ts : List Terminal) → next_is s ts ≡ true → (rest : List Terminal) × (ts ≡ Fixed s ∷ rest)
   mark_front s ts e = by_rest (behind s ts) refl e where
-    by_rest : (o : Result (List Terminal) Stop) → behind s ts ≡ o → is_ok o ≡ true → (rest : List Terminal) × (ts ≡ Mark s ∷ rest)
+    by_rest : (o : Result (List Terminal) Stop) → behind s ts ≡ o → is_ok o ≡ true → (rest : List Terminal) × (ts ≡ Fixed s ∷ rest)
     by_rest (Ok rest) same e = (rest, behind_is s ts rest same)
     by_rest (Err w) same e = absurd (both_ways false refl e)
 
   -- a symbol that waits for a comma takes it, and is passed at anything else
-  pub comma_taken : (x : Symbol) (more rest : Stack) (ts : List Terminal) → ((t : Terminal) → reply x t ≡ at_comma more t) → run (x ∷ rest) (Mark Comma ∷ ts) ≡ run (more ++ rest) ts
-  comma_taken x more rest ts h = rw (h (Mark Comma)) refl
+  pub comma_taken : (x : Symbol) (more rest : Stack) (ts : List Terminal) → ((t : Terminal) → reply x t ≡ at_comma more t) → run (x ∷ rest) (Fixed Comma ∷ ts) ≡ run (more ++ rest) ts
+  comma_taken x more rest ts h = rw (h (Fixed Comma)) refl
 
   pub comma_passed : (x : Symbol) (more : Stack) (y : Symbol) (rest : Stack) (ts : List Terminal) → ((t : Terminal) → reply x t ≡ at_comma more t) → next_is Comma ts ≡ false → run (x ∷ y ∷ rest) ts ≡ run (y ∷ rest) ts
   comma_passed x more y rest [] h e = refl
-  comma_passed x more y rest (Mark Comma ∷ ts) h e = absurd (both_ways true e refl)
+  comma_passed x more y rest (Fixed Comma ∷ ts) h e = absurd (both_ways true e refl)
   comma_passed x more y rest (t ∷ ts) h e = rw (h t) refl
 
   pub comma_settles : (x : Symbol) (more : Stack) (y : Symbol) (rest : Stack) (ts : List Terminal) → ((t : Terminal) → reply x t ≡ at_comma more t) → run (x ∷ y ∷ rest) ts ≡ run (cond (next_is Comma ts) (x ∷ y ∷ rest) (y ∷ rest)) ts

@@ -3,7 +3,7 @@ use Rattle.std.proofs.Common.{◌≡◌, ℕ, suc, ◌+◌, ◌≤◌, Bool, tru
 use Rattle.std.specs.Prelude.{nat_lt, slice_get}
 use Rattle.std.proofs.lemmas.Bool.{lt-ltb, ltb-true, ltb-false}
 use Rattle.bx_syntax.specs.declared.terminal.Terminal.{Terminal}
-use Rattle.bx_syntax.specs.declared.terminal.Terminal.TheVariants.{Mark, Name, Bit, Number, Reserved, Symbol as OtherSymbol}
+use Rattle.bx_syntax.specs.declared.terminal.Terminal.TheVariants.{Fixed, Name, Bit, Number, Reserved, Symbol as OtherSymbol}
 use Rattle.bx_syntax.specs.declared.terminal.Mark.TheVariants.{Module as ModuleWord, Assign as AssignWord}
 use Rattle.bx_syntax.specs.declared.stop.Stop.{Stop}
 use Rattle.bx_syntax.specs.declared.stop.Stop.TheVariants.{Bad, Deep}
@@ -17,7 +17,7 @@ use Rattle.bx_syntax.specs.Constructs.{construct_of}
 use Rattle.bx_syntax.specs.Faults.{Begins, Stops, IsDeep, IsConstruct, IsConstructAt}
 use Rattle.bx_syntax.proofs.ReadsModules.{module_reads}
 use Rattle.bx_syntax.proofs.ModuleSteps.{module_again, module_wider}
-use Rattle.bx_syntax.proofs.Stacks.{Symbol, Stack, start, reply, Reply, takes, nests, passed, stuck, Move, goes, bad, deep, Run, done, unfinished, stopped, ended, Agrees, answer, move, moved, run, Leads}
+use Rattle.bx_syntax.proofs.Stacks.{Symbol, Stack, start, reply, Reply, takes, nests, passed, stuck, Move, goes, bad, deep, Run, done, unfinished, stopped, end_run, Agrees, answer, move, move_run, run, Leads}
 use Rattle.bx_syntax.proofs.Leading.{module_leads}
 use Rattle.bx_syntax.proofs.Coming.{IsFine, word, comes, move_fine}
 use Rattle.bx_syntax.proofs.Probes.{Tells, tells, assign_probe, bit_probe, end_is}
@@ -94,20 +94,20 @@ pub record Halt (limit : ℕ) (stack : Stack) (ts : List Terminal) (e : Stop) : 
   pub reached : (high : ℕ) → limit ≤ high → (us : List Terminal) → run high stack (front ++ us) ≡ run high state us
   pub stops : Halting limit state t back e
 
-moves_on : (limit : ℕ) (stack : Stack) (t : Terminal) (ts : List Terminal) (m : Move) → move limit stack t ≡ m → run limit stack (t ∷ ts) ≡ moved limit m (λ next. run limit next ts) (t ∷ ts)
-moves_on limit stack t ts m e = ap (λ n. moved limit n (λ next. run limit next ts) (t ∷ ts)) e
+moves_on : (limit : ℕ) (stack : Stack) (t : Terminal) (ts : List Terminal) (m : Move) → move limit stack t ≡ m → run limit stack (t ∷ ts) ≡ move_run limit m (λ next. run limit next ts) (t ∷ ts)
+moves_on limit stack t ts m e = ap (λ n. move_run limit n (λ next. run limit next ts) (t ∷ ts)) e
 
-ended_is_no_stop : (stack : Stack) (e : Stop) → ended stack ≡ stopped e → ⊥
-ended_is_no_stop [] e h = cc
-ended_is_no_stop (x ∷ rest) e h = cc
+end_is_no_stop : (stack : Stack) (e : Stop) → end_run stack ≡ stopped e → ⊥
+end_is_no_stop [] e h = cc
+end_is_no_stop (x ∷ rest) e h = cc
 
 stop_is : {d e : Stop} → stopped d ≡ stopped e → d ≡ e
 stop_is h = cc
 
 pub halts : (limit : ℕ) (ts : List Terminal) (stack : Stack) (e : Stop) → IsFine stack → run limit stack ts ≡ stopped e → Halt limit stack ts e
-halts limit [] stack e f h = absurd (ended_is_no_stop stack e h)
+halts limit [] stack e f h = absurd (end_is_no_stop stack e h)
 halts limit (t ∷ ts) stack e f h = by_move (move limit stack t) refl (sym (moves_on limit stack t ts (move limit stack t) refl) ∙ h) (λ next g. halts limit ts next e g) where
-  by_move : (m : Move) → move limit stack t ≡ m → moved limit m (λ next. run limit next ts) (t ∷ ts) ≡ stopped e → ((next : Stack) → IsFine next → run limit next ts ≡ stopped e → Halt limit next ts e) → Halt limit stack (t ∷ ts) e
+  by_move : (m : Move) → move limit stack t ≡ m → move_run limit m (λ next. run limit next ts) (t ∷ ts) ≡ stopped e → ((next : Stack) → IsFine next → run limit next ts ≡ stopped e → Halt limit next ts e) → Halt limit stack (t ∷ ts) e
   by_move (goes next) same h again =
       let inner = again next (move_fine limit stack t next f same) h in
       record {
@@ -194,8 +194,8 @@ done_is_no_stop e h = cc
 none_is_some : {t : Terminal} → ◌≡◌ {A = Option Terminal} None (Some t) → ⊥
 none_is_some h = cc
 
-same_terminal : {t u : Terminal} → ◌≡◌ {A = Option Terminal} (Some t) (Some u) → t ≡ u
-same_terminal h = cc
+pub same_some : {A : Type 0} {a b : A} → ◌≡◌ {A = Option A} (Some a) (Some b) → a ≡ b
+same_some h = cc
 
 -- where reading stops at the end
 unfinished_found : (limit : ℕ) (ts : List Terminal) (w : Wanted) → run limit start ts ≡ unfinished → Found limit ts (Bad 0 w)
@@ -277,13 +277,13 @@ module _ (limit : ℕ) (ts : List Terminal) (e : Stop) (h : Halt limit start ts 
   -- a module that ends here has nothing to come
   front_whole : (m : ModuleTree) → IsModule limit m h.front → h.state ≡ []
   front_whole m is = by_state h.state (sym (h.reached limit (omega arith) []) ∙ ap (run limit start) (append-nil h.front) ∙ is_done limit m h.front is) where
-    by_state : (state : Stack) → ended state ≡ done → state ≡ []
+    by_state : (state : Stack) → end_run state ≡ done → state ≡ []
     by_state [] e = refl
     by_state (x ∷ rest) e = absurd (cc)
 
   whole_front : h.state ≡ [] → (m : ModuleTree) × IsModule limit m h.front
   whole_front none =
-      done_is limit h.front (ap (run limit start) (sym (append-nil h.front)) ∙ h.reached limit (omega arith) [] ∙ ap ended none)
+      done_is limit h.front (ap (run limit start) (sym (append-nil h.front)) ∙ h.reached limit (omega arith) [] ∙ ap end_run none)
 
   not_deep : (w : Wanted) → move limit h.state h.t ≡ bad w → IsDeep ts (length h.front) → ⊥
   not_deep w m (less, (high, b)) =
@@ -299,53 +299,43 @@ module _ (limit : ℕ) (ts : List Terminal) (e : Stop) (h : Halt limit start ts 
   construct_there : (w : Wanted) → move limit h.state h.t ≡ bad w → (t : Terminal) → h.t ≡ t → (c : Construct) → IsConstruct limit h.front t c → construct_of w t ≡ Some c
   construct_there w m (OtherSymbol b) same c is = is
   construct_there w m Reserved same c is = ap Some (sym is)
-  construct_there w m (Name n) same c is = by_wanted (tells limit (Mark AssignWord) Item assign_probe h.state h.t w h.fine m) where
-    by_wanted : Tells limit (Mark AssignWord) Item h.state w → construct_of w (Name n) ≡ Some c
+  construct_there w m (Name n) same c is = by_wanted (tells limit (Fixed AssignWord) Item assign_probe h.state h.t w h.fine m) where
+    by_wanted : Tells limit (Fixed AssignWord) Item h.state w → construct_of w (Name n) ≡ Some c
     by_wanted (inl (want, next)) = ap (λ v. construct_of v (Name n)) want ∙ ap Some (sym is.0)
-    by_wanted (inr (other, held)) = absurd (stuck_begins limit (omega arith) (Mark AssignWord) w held is.1)
+    by_wanted (inr (other, held)) = absurd (stuck_begins limit (omega arith) (Fixed AssignWord) w held is.1)
   construct_there w m Number same c is = by_wanted (tells limit (Bit false) Primary bit_probe h.state h.t w h.fine m) where
     by_wanted : Tells limit (Bit false) Primary h.state w → construct_of w Number ≡ Some c
     by_wanted (inl (want, next)) = ap (λ v. construct_of v Number) want ∙ ap Some (sym is.0)
     by_wanted (inr (other, held)) = absurd (stuck_begins limit (omega arith) (Bit false) w held is.1)
-  construct_there w m (Mark ModuleWord) same c is =
+  construct_there w m (Fixed ModuleWord) same c is =
       let none = front_whole is.1.0 is.1.1 in
       let end : w ≡ End = wanted_end (sym (ap (λ (state : Stack). move limit state h.t) none) ∙ m) in
-      ap (λ v. construct_of v (Mark ModuleWord)) end ∙ ap Some (sym is.0) where
+      ap (λ v. construct_of v (Fixed ModuleWord)) end ∙ ap Some (sym is.0) where
         wanted_end : bad End ≡ bad w → w ≡ End
         wanted_end e = cc
-  construct_there w m (Mark _) same c is = absurd is
+  construct_there w m (Fixed _) same c is = absurd is
   construct_there w m _ same c is = absurd is
 
   there_construct : (w : Wanted) → move limit h.state h.t ≡ bad w → (t : Terminal) → h.t ≡ t → (c : Construct) → construct_of w t ≡ Some c → IsConstruct limit h.front t c
   there_construct w m (OtherSymbol b) same c is = is
-  there_construct w m Reserved same c is = some_same is where
-    some_same : {a b : Construct} → ◌≡◌ {A = Option Construct} (Some a) (Some b) → b ≡ a
-    some_same e = cc
-  there_construct Item m (Name n) same c is = (some_same is, by_wanted (tells limit (Mark AssignWord) Item assign_probe h.state h.t Item h.fine m)) where
-    some_same : {a b : Construct} → ◌≡◌ {A = Option Construct} (Some a) (Some b) → b ≡ a
-    some_same e = cc
-
-    by_wanted : Tells limit (Mark AssignWord) Item h.state Item → Begins limit (h.front ++ Mark AssignWord ∷ [])
-    by_wanted (inl (want, (next, moves))) = goes_begins limit (omega arith) (Mark AssignWord) next moves
+  there_construct w m Reserved same c is = sym (same_some is)
+  there_construct Item m (Name n) same c is = (sym (same_some is), by_wanted (tells limit (Fixed AssignWord) Item assign_probe h.state h.t Item h.fine m)) where
+    by_wanted : Tells limit (Fixed AssignWord) Item h.state Item → Begins limit (h.front ++ Fixed AssignWord ∷ [])
+    by_wanted (inl (want, (next, moves))) = goes_begins limit (omega arith) (Fixed AssignWord) next moves
     by_wanted (inr (other, held)) = absurd (other refl)
-  there_construct Primary m Number same c is = (some_same is, by_wanted (tells limit (Bit false) Primary bit_probe h.state h.t Primary h.fine m)) where
-    some_same : {a b : Construct} → ◌≡◌ {A = Option Construct} (Some a) (Some b) → b ≡ a
-    some_same e = cc
-
+  there_construct Primary m Number same c is = (sym (same_some is), by_wanted (tells limit (Bit false) Primary bit_probe h.state h.t Primary h.fine m)) where
     by_wanted : Tells limit (Bit false) Primary h.state Primary → Begins limit (h.front ++ Bit false ∷ [])
     by_wanted (inl (want, (next, moves))) = goes_begins limit (omega arith) (Bit false) next moves
     by_wanted (inr (other, held)) = absurd (other refl)
-  there_construct End m (Mark ModuleWord) same c is = (some_same is, whole_front (end_is limit h.state h.t h.fine m)) where
-    some_same : {a b : Construct} → ◌≡◌ {A = Option Construct} (Some a) (Some b) → b ≡ a
-    some_same e = cc
+  there_construct End m (Fixed ModuleWord) same c is = (sym (same_some is), whole_front (end_is limit h.state h.t h.fine m))
   there_construct w m t same c is = absurd (cc)
 
   constructs : (w : Wanted) → move limit h.state h.t ≡ bad w → (c : Construct) →
       (IsConstructAt limit ts (length h.front) c → (t : Terminal) × (slice_get ts (length h.front) ≡ Some t) × (construct_of w t ≡ Some c))
       × ((t : Terminal) → slice_get ts (length h.front) ≡ Some t → construct_of w t ≡ Some c → IsConstructAt limit ts (length h.front) c)
   constructs w m c = (
-    (λ at. (at.0, at.1, construct_there w m at.0 (same_terminal (sym terminal_is ∙ at.1)) c (subst (λ (us : List Terminal). IsConstruct limit us at.0 c) front_is at.2))),
-    (λ t at is. (t, at, subst (λ (us : List Terminal). IsConstruct limit us t c) (sym front_is) (there_construct w m t (same_terminal (sym terminal_is ∙ at)) c is))),
+    (λ at. (at.0, at.1, construct_there w m at.0 (same_some (sym terminal_is ∙ at.1)) c (subst (λ (us : List Terminal). IsConstruct limit us at.0 c) front_is at.2))),
+    (λ t at is. (t, at, subst (λ (us : List Terminal). IsConstruct limit us t c) (sym front_is) (there_construct w m t (same_some (sym terminal_is ∙ at)) c is))),
   )
 
   halt_kind : Halting limit h.state h.t h.back e → Found limit ts e

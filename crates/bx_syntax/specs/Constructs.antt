@@ -1,7 +1,7 @@
 -- The construct that the code says of the terminal at which it stops, where it wants this.
 use Rattle.std.specs.Prelude.{ℕ, Option, Some, None}
 use Rattle.bx_syntax.specs.declared.terminal.Terminal.{Terminal}
-use Rattle.bx_syntax.specs.declared.terminal.Terminal.TheVariants.{Mark, Name, Number, Reserved, Symbol}
+use Rattle.bx_syntax.specs.declared.terminal.Terminal.TheVariants.{Fixed, Name, Number, Reserved, Symbol}
 use Rattle.bx_syntax.specs.declared.terminal.Mark.TheVariants.{Module as ModuleWord}
 use Rattle.bx_syntax.specs.declared.stop.Wanted.{Wanted}
 use Rattle.bx_syntax.specs.declared.stop.Wanted.TheVariants.{Item, Primary, End}
@@ -16,7 +16,7 @@ construct_of wanted (Symbol b) = symbol_construct b
 construct_of wanted Reserved = Some ReservedWord
 construct_of Item (Name n) = Some Instance
 construct_of Primary Number = Some OtherNumber
-construct_of End (Mark ModuleWord) = Some Second
+construct_of End (Fixed ModuleWord) = Some Second
 construct_of wanted t = None
 
 abbrev pub construct_behind : Wanted → Option Terminal → Option Construct

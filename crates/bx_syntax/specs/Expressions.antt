@@ -2,7 +2,7 @@
 -- a level is a list of operands of the level below, joined by the operators that stand between these.
 use Rattle.std.specs.Prelude.{◌≡◌, ℕ, ◌+◌, ◌<◌, max, List, [], ◌∷◌, ◌++◌}
 use Rattle.bx_syntax.specs.declared.terminal.Terminal.{Terminal}
-use Rattle.bx_syntax.specs.declared.terminal.Terminal.TheVariants.{Mark, Name, Bit}
+use Rattle.bx_syntax.specs.declared.terminal.Terminal.TheVariants.{Fixed, Name, Bit}
 use Rattle.bx_syntax.specs.declared.terminal.Mark.TheVariants.{Tilde, Open, Close, Ampersand, Caret, TildeCaret, Bar}
 use Rattle.bx_syntax.specs.declared.tree.Operator.{Operator}
 use Rattle.bx_syntax.specs.declared.tree.Operator.TheVariants.{And, Xor, Xnor, Or}
@@ -30,18 +30,18 @@ abbrev mutual
   AreAt level (link o t ts) = (rank o ≡ level) × IsAt level t × AreAt level ts
 
 abbrev pub sign : Operator → Terminal
-sign And = Mark Ampersand
-sign Xor = Mark Caret
-sign Xnor = Mark TildeCaret
-sign Or = Mark Bar
+sign And = Fixed Ampersand
+sign Xor = Fixed Caret
+sign Xnor = Fixed TildeCaret
+sign Or = Fixed Bar
 
 abbrev mutual
   -- the terminals of an expression
   pub spelling : Tree → List Terminal
   spelling (net n) = Name n ∷ []
   spelling (bit b) = Bit b ∷ []
-  spelling (inverse t) = Mark Tilde ∷ spelling t
-  spelling (group t) = Mark Open ∷ (spelling t ++ Mark Close ∷ [])
+  spelling (inverse t) = Fixed Tilde ∷ spelling t
+  spelling (group t) = Fixed Open ∷ (spelling t ++ Fixed Close ∷ [])
   spelling (joined t o u ts) = spelling t ++ sign o ∷ (spelling u ++ tail_spelling ts)
 
   pub tail_spelling : Tail → List Terminal

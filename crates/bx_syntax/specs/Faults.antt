@@ -3,7 +3,7 @@ use Rattle.std.specs.Prelude.{◌≡◌, ℕ, ◌+◌, ◌<◌, ◌≤◌, false
 use Rattle.bx_lex.specs.declared.token.Token.{Token}
 use Rattle.bx_lex.specs.Tokens.{TokenList}
 use Rattle.bx_syntax.specs.declared.terminal.Terminal.{Terminal}
-use Rattle.bx_syntax.specs.declared.terminal.Terminal.TheVariants.{Mark, Name, Bit, Number, Reserved, Symbol}
+use Rattle.bx_syntax.specs.declared.terminal.Terminal.TheVariants.{Fixed, Name, Bit, Number, Reserved, Symbol}
 use Rattle.bx_syntax.specs.declared.terminal.Mark.TheVariants.{Module as ModuleWord, Assign as AssignWord}
 use Rattle.bx_syntax.specs.declared.fault.Construct.{Construct}
 use Rattle.bx_syntax.specs.declared.fault.Construct.TheVariants.{Vector, Ternary, Delay, Concat, Operator, Directive, Instance, Second, Number as OtherNumber, Reserved as ReservedWord}
@@ -55,9 +55,9 @@ symbol_construct b =
 abbrev pub IsConstruct : ℕ → List Terminal → Terminal → Construct → Type 0
 IsConstruct limit ts (Symbol b) c = symbol_construct b ≡ Some c
 IsConstruct limit ts Reserved c = c ≡ ReservedWord
-IsConstruct limit ts (Name n) c = (c ≡ Instance) × Begins limit (ts ++ Mark AssignWord ∷ [])
+IsConstruct limit ts (Name n) c = (c ≡ Instance) × Begins limit (ts ++ Fixed AssignWord ∷ [])
 IsConstruct limit ts Number c = (c ≡ OtherNumber) × Begins limit (ts ++ Bit false ∷ [])
-IsConstruct limit ts (Mark ModuleWord) c = (c ≡ Second) × ((m : ModuleTree) × IsModule limit m ts)
+IsConstruct limit ts (Fixed ModuleWord) c = (c ≡ Second) × ((m : ModuleTree) × IsModule limit m ts)
 IsConstruct limit ts _ c = ⊥
 
 -- the construct of the terminal behind the first k
@@ -81,6 +81,10 @@ IsFault limit ts found (NotTaken place c) =
 IsFault limit ts found (TooDeep place) =
     (k : ℕ) × (place ≡ place_of found k) × Stops limit ts k × IsDeep ts k
 IsFault limit ts found NoMemory = ⊥
+
+-- The tokens of a text have this tree, in which nothing nests deeper than 256.
+abbrev pub IsTreeOf : List ℕ → TokenList → ModuleTree → Type 0
+IsTreeOf text found m = IsModule 256 m (terminals_of text found.tokens)
 
 -- The fault of a text with these tokens: where the first bad token stands, and what it is. Nothing nests
 -- deeper than 256.

@@ -1,5 +1,6 @@
 -- What a reader of the code answers, against what reading gives. Want of memory says nothing of it.
-use Rattle.std.specs.Prelude.{◌≡◌, List, Result, Ok, Err}
+use Rattle.std.specs.Prelude.{◌≡◌, List, map, Result, Ok, Err, Vec}
+use Rattle.std.specs.declared.alloc.Global.{Global}
 use Rattle.bx_syntax.specs.declared.terminal.Terminal.{Terminal}
 use Rattle.bx_syntax.specs.declared.stop.Stop.{Stop}
 use Rattle.bx_syntax.specs.declared.stop.Stop.TheVariants.{Bad, Deep, NoMemory}
@@ -23,3 +24,7 @@ GivesRest rest (Err e) read = Fails e read
 abbrev pub GivesSome : {X Y S : Type 0} → (X → Y) → List Terminal → Result X Stop → Result ((Y × S) × List Terminal) Stop → Type 0
 GivesSome {S = S} view rest (Ok x) read = (s : S) × (read ≡ Ok ((view x, s), rest))
 GivesSome view rest (Err e) read = Fails e read
+
+-- The same of a list that is read one after the other.
+abbrev pub GivesList : {X Y : Type 0} → (X → Y) → List Terminal → Result (Vec X Global) Stop → Result ((List Y × Unit {0}) × List Terminal) Stop → Type 0
+GivesList view rest result read = Gives (λ v. (map view v.items, tt)) rest result read

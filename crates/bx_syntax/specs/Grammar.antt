@@ -6,7 +6,7 @@ use Rattle.std.specs.Prelude.{◌≡◌, ◌≢◌, ℕ, ◌≤◌, ◌⊎◌, L
 use Rattle.bx_logic.specs.declared.op.Op.{Op}
 use Rattle.bx_logic.specs.declared.op.Op.TheVariants.{Buf, Not}
 use Rattle.bx_syntax.specs.declared.terminal.Terminal.{Terminal}
-use Rattle.bx_syntax.specs.declared.terminal.Terminal.TheVariants.{Mark, Gate as GateWord, Name}
+use Rattle.bx_syntax.specs.declared.terminal.Terminal.TheVariants.{Fixed, GateWord, Name}
 use Rattle.bx_syntax.specs.declared.terminal.Mark.TheVariants.{Module as ModuleWord, EndModule, Input as InputWord, Output as OutputWord, Wire as WireWord, Assign as AssignWord, Open, Close, Comma, Semicolon, Equals}
 use Rattle.bx_syntax.specs.declared.tree.Direction.{Direction}
 use Rattle.bx_syntax.specs.declared.tree.Direction.TheVariants.{Input, Output}
@@ -37,7 +37,7 @@ IsLabel ts rest = (ts ≡ rest) ⊎ ((n : List ℕ) × IsName n ts rest)
 -- { ',' x }
 abbrev pub AreMore : {A : Type 0} → (A → Between) → List A → Between
 AreMore IsX [] ts rest = ts ≡ rest
-AreMore IsX (x ∷ xs) ts rest = (a : List Terminal) × (b : List Terminal) × Is (Mark Comma) ts a × IsX x a b × AreMore IsX xs b rest
+AreMore IsX (x ∷ xs) ts rest = (a : List Terminal) × (b : List Terminal) × Is (Fixed Comma) ts a × IsX x a b × AreMore IsX xs b rest
 
 -- x { ',' x }
 abbrev pub AreListed : {A : Type 0} → (A → Between) → List A → Between
@@ -45,18 +45,18 @@ AreListed IsX [] ts rest = ⊥
 AreListed IsX (x ∷ xs) ts rest = (a : List Terminal) × IsX x ts a × AreMore IsX xs a rest
 
 abbrev pub word : Direction → Terminal
-word Input = Mark InputWord
-word Output = Mark OutputWord
+word Input = Fixed InputWord
+word Output = Fixed OutputWord
 
 -- ( 'input' | 'output' ) [ 'wire' ]
 abbrev pub IsDirection : Direction → Between
-IsDirection d ts rest = (a : List Terminal) × Is (word d) ts a × IsOptional (Mark WireWord) a rest
+IsDirection d ts rest = (a : List Terminal) × Is (word d) ts a × IsOptional (Fixed WireWord) a rest
 
 -- what stands before the parts of an item of a kind
 abbrev pub IsHead : Kind → Between
 IsHead (Declaration d) = IsDirection d
-IsHead Wire = Is (Mark WireWord)
-IsHead Assign = Is (Mark AssignWord)
+IsHead Wire = Is (Fixed WireWord)
+IsHead Assign = Is (Fixed AssignWord)
 IsHead (Gate op) = Is (GateWord op)
 
 module _ (limit : ℕ) where
@@ -66,17 +66,17 @@ module _ (limit : ℕ) where
   -- name [ '=' expr ], name '=' expr
   abbrev pub IsWire : List ℕ → Option Tree → Between
   IsWire n None ts rest = IsName n ts rest
-  IsWire n (Some e) ts rest = (a : List Terminal) × (b : List Terminal) × IsName n ts a × Is (Mark Equals) a b × IsExpr e b rest
+  IsWire n (Some e) ts rest = (a : List Terminal) × (b : List Terminal) × IsName n ts a × Is (Fixed Equals) a b × IsExpr e b rest
 
   -- '(' name ',' expr { ',' expr } ')'
   abbrev pub IsMany : List ℕ → List Tree → Between
   IsMany n es ts rest =
-      (a : List Terminal) × (b : List Terminal) × (c : List Terminal) × (d : List Terminal) × Is (Mark Open) ts a × IsName n a b × Is (Mark Comma) b c × AreListed IsExpr es c d × Is (Mark Close) d rest
+      (a : List Terminal) × (b : List Terminal) × (c : List Terminal) × (d : List Terminal) × Is (Fixed Open) ts a × IsName n a b × Is (Fixed Comma) b c × AreListed IsExpr es c d × Is (Fixed Close) d rest
 
   -- '(' name { ',' name } ',' expr ')'
   abbrev pub IsFew : List (List ℕ) → Tree → Between
   IsFew ns e ts rest =
-      (a : List Terminal) × (b : List Terminal) × (c : List Terminal) × (d : List Terminal) × Is (Mark Open) ts a × AreListed IsName ns a b × Is (Mark Comma) b c × IsExpr e c d × Is (Mark Close) d rest
+      (a : List Terminal) × (b : List Terminal) × (c : List Terminal) × (d : List Terminal) × Is (Fixed Open) ts a × AreListed IsName ns a b × Is (Fixed Comma) b c × IsExpr e c d × Is (Fixed Close) d rest
 
   -- the gates of several arguments, and those of one
   abbrev pub IsGate : Op → PartTree → Between
@@ -93,7 +93,7 @@ module _ (limit : ℕ) where
   IsPart _ _ ts rest = ⊥
 
   abbrev pub IsItem : List PartTree → Between
-  IsItem ps ts rest = (k : Kind) × (a : List Terminal) × (b : List Terminal) × IsHead k ts a × AreListed (IsPart k) ps a b × Is (Mark Semicolon) b rest
+  IsItem ps ts rest = (k : Kind) × (a : List Terminal) × (b : List Terminal) × IsHead k ts a × AreListed (IsPart k) ps a b × Is (Fixed Semicolon) b rest
 
   abbrev pub AreItems : List (List PartTree) → Between
   AreItems [] ts rest = ts ≡ rest
@@ -111,7 +111,7 @@ IsDirected p ts rest = (d : Direction) × (a : List Terminal) × (p.direction �
 abbrev pub ArePortsBehind : Option Direction → List Port → Between
 ArePortsBehind d [] ts rest = ts ≡ rest
 ArePortsBehind d (p ∷ ps) ts rest =
-    (a : List Terminal) × (b : List Terminal) × Is (Mark Comma) ts a × (IsPlain d p a b ⊎ (IsSome d × IsDirected p a b)) × ArePortsBehind p.direction ps b rest
+    (a : List Terminal) × (b : List Terminal) × Is (Fixed Comma) ts a × (IsPlain d p a b ⊎ (IsSome d × IsDirected p a b)) × ArePortsBehind p.direction ps b rest
 
 abbrev pub ArePorts : List Port → Between
 ArePorts [] ts rest = ⊥
@@ -121,7 +121,7 @@ ArePorts (p ∷ ps) ts rest = (a : List Terminal) × (IsPlain None p ts a ⊎ Is
 abbrev pub IsHeader : List Port → Between
 IsHeader ps ts rest =
     ((ps ≡ []) × (ts ≡ rest))
-    ⊎ ((a : List Terminal) × (b : List Terminal) × Is (Mark Open) ts a × (((ps ≡ []) × (a ≡ b)) ⊎ ArePorts ps a b) × Is (Mark Close) b rest)
+    ⊎ ((a : List Terminal) × (b : List Terminal) × Is (Fixed Open) ts a × (((ps ≡ []) × (a ≡ b)) ⊎ ArePorts ps a b) × Is (Fixed Close) b rest)
 
 -- A module, and nothing behind it.
 pub record IsModule (limit : ℕ) (m : ModuleTree) (ts : List Terminal) : Type 0 where
@@ -130,9 +130,9 @@ pub record IsModule (limit : ℕ) (m : ModuleTree) (ts : List Terminal) : Type 0
   pub ended : List Terminal
   pub body : List Terminal
   pub last : List Terminal
-  pub begins : Is (Mark ModuleWord) ts named
+  pub begins : Is (Fixed ModuleWord) ts named
   pub name : IsName m.name named headed
   pub header : IsHeader m.ports headed ended
-  pub semicolon : Is (Mark Semicolon) ended body
+  pub semicolon : Is (Fixed Semicolon) ended body
   pub items : AreItems limit m.items body last
-  pub ends : Is (Mark EndModule) last []
+  pub ends : Is (Fixed EndModule) last []

@@ -5,13 +5,13 @@ use Rattle.bx_lex.specs.declared.token.TokenKind.{TokenKind}
 use Rattle.bx_lex.specs.declared.token.TokenKind.TheVariants.{Word, Escaped, Number as NumberToken, Symbol as SymbolToken}
 use Rattle.bx_lex.specs.Bytes.{is_base}
 use Rattle.bx_syntax.specs.declared.terminal.Terminal.{Terminal}
-use Rattle.bx_syntax.specs.declared.terminal.Terminal.TheVariants.{Mark, Name, Bit, Number, Symbol}
-use Rattle.bx_syntax.specs.declared.terminal.Mark.{Mark as Sign}
+use Rattle.bx_syntax.specs.declared.terminal.Terminal.TheVariants.{Fixed, Name, Bit, Number, Symbol}
+use Rattle.bx_syntax.specs.declared.terminal.Mark.{Mark}
 use Rattle.bx_syntax.specs.declared.terminal.Mark.TheVariants.{Open, Close, Comma, Semicolon, Equals, Tilde, Ampersand, Caret, TildeCaret, Bar}
 use Rattle.bx_syntax.specs.Words.{word_terminal}
 
 -- a symbol of one byte that the grammar uses
-abbrev pub one_symbol : ℕ → Option Sign
+abbrev pub one_symbol : ℕ → Option Mark
 one_symbol b =
     if b == 40 then Some Open
     else (if b == 41 then Some Close
@@ -24,8 +24,8 @@ one_symbol b =
     else (if b == 124 then Some Bar
     else None))))))))
 
-abbrev pub mark_or_symbol : ℕ → Option Sign → Terminal
-mark_or_symbol b (Some s) = Mark s
+abbrev pub mark_or_symbol : ℕ → Option Mark → Terminal
+mark_or_symbol b (Some s) = Fixed s
 mark_or_symbol b None = Symbol b
 
 -- the symbols of two bytes are `~^` and `^~`
@@ -35,7 +35,7 @@ is_xnor a b = ((a == 126) && (b == 94)) || ((a == 94) && (b == 126))
 abbrev pub symbol_terminal : List ℕ → Terminal
 symbol_terminal [] = Symbol 0
 symbol_terminal (b ∷ []) = mark_or_symbol b (one_symbol b)
-symbol_terminal (a ∷ b ∷ []) = if is_xnor a b then Mark TildeCaret else Symbol a
+symbol_terminal (a ∷ b ∷ []) = if is_xnor a b then Fixed TildeCaret else Symbol a
 symbol_terminal (a ∷ b ∷ c ∷ rest) = Symbol a
 
 -- `1'`, the letter of a base, and `0` or `1`

@@ -19,9 +19,9 @@ mutual
     link : Operator → Tree → Tail → Tail
 
 -- an operand and further ones of its level; a level of one operand is this operand
-abbrev pub started : Tree → Tail → Tree
-started t done = t
-started t (link o u ts) = joined t o u ts
+abbrev pub chain_of : Tree → Tail → Tree
+chain_of t done = t
+chain_of t (link o u ts) = joined t o u ts
 
 abbrev mutual
   pub tree : Expr → Tree

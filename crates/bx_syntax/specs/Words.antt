@@ -1,30 +1,30 @@
 -- The reserved words of the profile: those that the grammar uses, each with what it is to it, and those
 -- that are refused. Any other word is a name.
-use Rattle.std.specs.Prelude.{ℕ, if◌then◌else◌, List, [], ◌∷◌, ◌++◌, map, codes}
+use Rattle.std.specs.Prelude.{◌≡◌, ℕ, if◌then◌else◌, List, [], ◌∷◌, ◌++◌, map, codes}
 use Rattle.std.specs.List.{list_any}
 use Rattle.std.specs.Str.{bytes_eq}
 use Rattle.bx_logic.specs.declared.op.Op.TheVariants.{Buf, Not, And, Or, Nand, Nor, Xor, Xnor}
 use Rattle.bx_syntax.specs.declared.terminal.Terminal.{Terminal}
-use Rattle.bx_syntax.specs.declared.terminal.Terminal.TheVariants.{Mark, Gate, Name, Reserved}
+use Rattle.bx_syntax.specs.declared.terminal.Terminal.TheVariants.{Fixed, GateWord, Name, Reserved}
 use Rattle.bx_syntax.specs.declared.terminal.Mark.TheVariants.{Module, EndModule, Input, Output, Wire, Assign}
 
 -- the words that the grammar uses
 abbrev pub uses : List (List ℕ × Terminal)
 uses =
-    (codes "module", Mark Module) ∷
-    (codes "endmodule", Mark EndModule) ∷
-    (codes "input", Mark Input) ∷
-    (codes "output", Mark Output) ∷
-    (codes "wire", Mark Wire) ∷
-    (codes "assign", Mark Assign) ∷
-    (codes "and", Gate And) ∷
-    (codes "or", Gate Or) ∷
-    (codes "nand", Gate Nand) ∷
-    (codes "nor", Gate Nor) ∷
-    (codes "xor", Gate Xor) ∷
-    (codes "xnor", Gate Xnor) ∷
-    (codes "buf", Gate Buf) ∷
-    (codes "not", Gate Not) ∷
+    (codes "module", Fixed Module) ∷
+    (codes "endmodule", Fixed EndModule) ∷
+    (codes "input", Fixed Input) ∷
+    (codes "output", Fixed Output) ∷
+    (codes "wire", Fixed Wire) ∷
+    (codes "assign", Fixed Assign) ∷
+    (codes "and", GateWord And) ∷
+    (codes "or", GateWord Or) ∷
+    (codes "nand", GateWord Nand) ∷
+    (codes "nor", GateWord Nor) ∷
+    (codes "xor", GateWord Xor) ∷
+    (codes "xnor", GateWord Xnor) ∷
+    (codes "buf", GateWord Buf) ∷
+    (codes "not", GateWord Not) ∷
     []
 
 -- the words that are refused
@@ -56,3 +56,6 @@ use_of word (u ∷ rest) other = if bytes_eq word u.0 then u.1 else use_of word 
 -- what a word is
 unfoldable pub word_terminal : List ℕ → Terminal
 word_terminal word = use_of word uses (if list_any (bytes_eq word) refused_words then Reserved else Name word)
+
+abbrev pub IsWord : List ℕ → Terminal → Type 0
+IsWord word t = word_terminal word ≡ t

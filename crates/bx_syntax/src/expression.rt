@@ -34,7 +34,8 @@ fn level(
     level_number: u8,
     depth: u32,
 ) -> Result<Expr, Stop>
-    ensures { Gives tree terminals.new.items result (level_at (primary_at depth) level_number terminals.old.items) }
+    ensures { Gives tree terminals.new.items result
+        (level_at (primary_at depth) level_number terminals.old.items) }
 {
     match level_number.checked_sub(1) {
         None => primary(alloc, terminals, depth),
@@ -51,7 +52,8 @@ fn chain(
     below: u8,
     depth: u32,
 ) -> Result<Expr, Stop>
-    ensures { Gives tree terminals.new.items result (joined_at (level_at (primary_at depth) below) below terminals.old.items) }
+    ensures { Gives tree terminals.new.items result
+        (joined_at (level_at (primary_at depth) below) below terminals.old.items) }
 {
     let first = level(alloc, terminals, below, depth)?;
     let Some(operator) = operator_at(terminals, below) else {
@@ -60,7 +62,7 @@ fn chain(
     take(terminals);
     let second = level(alloc, terminals, below, depth)?;
     let more = operands(alloc, terminals, below, depth)?;
-    joined(alloc, first, operator, second, more)
+    join(alloc, first, operator, second, more)
 }
 
 // Further operands of a level, each with the operator before it.
@@ -71,7 +73,8 @@ fn operands(
     below: u8,
     depth: u32,
 ) -> Result<Vec<Operand>, Stop>
-    ensures { Gives (λ v. tail v.items) terminals.new.items result (tail_at (level_at (primary_at depth) below) below terminals.old.items) }
+    ensures { Gives (λ v. tail v.items) terminals.new.items result
+        (tail_at (level_at (primary_at depth) below) below terminals.old.items) }
 {
     let mut operands = Vec::new(alloc);
     while let Some(operator) = operator_at(terminals, below) {
@@ -83,14 +86,15 @@ fn operands(
 }
 
 // Two operands of one level and further ones, joined.
-fn joined(
+fn join(
     alloc: Global,
     first: Expr,
     operator: Operator,
     second: Expr,
     more: Vec<Operand>,
 ) -> Result<Expr, Stop>
-    ensures found { IfOk result (λ e. tree e ≡ joined (tree first) operator (tree second) (tail more.items)) }
+    ensures found { IfOk result
+        (λ e. tree e ≡ joined (tree first) operator (tree second) (tail more.items)) }
     ensures failed { IfErr result (λ e. e ≡ Stop.NoMemory) }
 {
     let first = Box::new(alloc, first)?;
@@ -120,13 +124,14 @@ fn primary_from(
     depth: u32,
 ) -> Result<Expr, Stop>
     requires { left ≡ suc (length terminals.old.items) }
-    ensures { Gives tree terminals.new.items result (primary_at depth (front ∷ terminals.old.items)) }
+    ensures { Gives tree terminals.new.items result
+        (primary_at depth (front ∷ terminals.old.items)) }
 {
     match front {
         Terminal::Name(name) => Ok(Expr::Net(name)),
         Terminal::Bit(bit) => Ok(Expr::Bit(bit)),
-        Terminal::Mark(mark) => nested(alloc, mark, terminals, left, depth),
-        Terminal::Gate(_) | Terminal::Number | Terminal::Reserved | Terminal::Symbol(_) => {
+        Terminal::Fixed(mark) => nested(alloc, mark, terminals, left, depth),
+        Terminal::GateWord(_) | Terminal::Number | Terminal::Reserved | Terminal::Symbol(_) => {
             Err(Stop::Bad(left, Wanted::Primary))
         }
     }
@@ -142,7 +147,8 @@ fn nested(
     depth: u32,
 ) -> Result<Expr, Stop>
     requires { left ≡ suc (length terminals.old.items) }
-    ensures { Gives tree terminals.new.items result (primary_at depth (Terminal.Mark mark ∷ terminals.old.items)) }
+    ensures { Gives tree terminals.new.items result
+        (primary_at depth (Terminal.Fixed mark ∷ terminals.old.items)) }
 {
     match mark {
         Mark::Tilde => inverse(alloc, terminals, left, depth),

@@ -1,7 +1,6 @@
 //! The reader of a module's header: its ports, in their order.
-ghost use Rattle.std.specs.Prelude.{◌≡◌, suc, [], ◌∷◌, length, None};
-ghost use Rattle.bx_syntax.specs.Repeats.{repeated, ahead_of};
-ghost use Rattle.bx_syntax.specs.ReadsModules.{direction_of, directed, port_at, port_next, comma_port, ports_at, header_at};
+ghost use Rattle.std.specs.Prelude.{◌≡◌, suc, ◌∷◌, length, None};
+ghost use Rattle.bx_syntax.specs.ReadsModules.{direction_of, port_behind, port_at, comma_port, more_ports_at, ports_at, header_at};
 ghost use Rattle.bx_syntax.specs.Gives.{Gives, GivesSome};
 
 use crate::lookahead::{expect, name, next_is, skip, take};
@@ -46,7 +45,8 @@ fn more_ports(
     terminals: &mut VecDeque<Terminal>,
     first: Port,
 ) -> Result<Vec<Port>, Stop>
-    ensures { GivesSome (λ v. v.items) terminals.new.items result (ahead_of (first ∷ []) (repeated port_next comma_port first.direction terminals.old.items)) }
+    ensures { GivesSome (λ v. v.items) terminals.new.items result
+        (more_ports_at first terminals.old.items) }
 {
     let mut direction = first.direction;
     let mut ports = vec![in alloc; first]?;
@@ -60,7 +60,8 @@ fn more_ports(
 
 // A port behind another one of this direction.
 fn next_port(terminals: &mut VecDeque<Terminal>, direction: Option<Direction>) -> Result<Port, Stop>
-    ensures { Gives (λ p. (p, p.direction)) terminals.new.items result (comma_port direction terminals.old.items) }
+    ensures { Gives (λ p. (p, p.direction)) terminals.new.items result
+        (comma_port direction terminals.old.items) }
 {
     expect(terminals, Mark::Comma)?;
     port(terminals, direction.is_some(), direction)
@@ -72,7 +73,8 @@ fn port(
     words: bool,
     direction: Option<Direction>,
 ) -> Result<Port, Stop>
-    ensures { Gives (λ p. p) terminals.new.items result (port_at words direction terminals.old.items) }
+    ensures { Gives (λ p. p) terminals.new.items result
+        (port_at words direction terminals.old.items) }
 {
     let left = terminals.len();
     let Some(front) = take(terminals) else {
@@ -91,12 +93,13 @@ fn port_from(
     direction: Option<Direction>,
 ) -> Result<Port, Stop>
     requires { left ≡ suc (length terminals.old.items) }
-    ensures { Gives (λ p. p) terminals.new.items result (port_at words direction (front ∷ terminals.old.items)) }
+    ensures { Gives (λ p. p) terminals.new.items result
+        (port_at words direction (front ∷ terminals.old.items)) }
 {
     match front {
         Terminal::Name(name) => Ok(Port { name, direction }),
-        Terminal::Mark(mark) if words => match direction_of(mark) {
-            Some(direction) => directed(terminals, direction),
+        Terminal::Fixed(mark) if words => match direction_of(mark) {
+            Some(direction) => port_behind(terminals, direction),
             None => Err(Stop::Bad(left, Wanted::Other)),
         },
         _ => Err(Stop::Bad(left, Wanted::Other)),
@@ -104,8 +107,9 @@ fn port_from(
 }
 
 // A port, behind the word of its direction.
-fn directed(terminals: &mut VecDeque<Terminal>, direction: Direction) -> Result<Port, Stop>
-    ensures { Gives (λ p. p) terminals.new.items result (directed direction terminals.old.items) }
+fn port_behind(terminals: &mut VecDeque<Terminal>, direction: Direction) -> Result<Port, Stop>
+    ensures { Gives (λ p. p) terminals.new.items result
+        (port_behind direction terminals.old.items) }
 {
     skip(terminals, Mark::Wire);
     let name = name(terminals)?;

@@ -1,9 +1,8 @@
 //! The reader of a module's items.
-ghost use Rattle.std.specs.Prelude.{◌≡◌, suc, [], ◌∷◌, length, map};
+ghost use Rattle.std.specs.Prelude.{◌≡◌, suc, ◌∷◌, length};
 ghost use Rattle.bx_syntax.specs.Parts.{part, parts};
-ghost use Rattle.bx_syntax.specs.Repeats.{repeated, ahead_of};
-ghost use Rattle.bx_syntax.specs.ReadsModules.{comma_next, comma_step, part_at, kind_of, kind_at, item_at, item_next, one_item};
-ghost use Rattle.bx_syntax.specs.Gives.{Gives};
+ghost use Rattle.bx_syntax.specs.ReadsModules.{comma_step, more_at, part_at, kind_of, kind_at, item_at, item_next, items_at};
+ghost use Rattle.bx_syntax.specs.Gives.{Gives, GivesList};
 
 use crate::expression::DEEPEST;
 use crate::lookahead::{expect, next_is, skip, take};
@@ -19,7 +18,7 @@ pub(crate) fn items(
     alloc: Global,
     terminals: &mut VecDeque<Terminal>,
 ) -> Result<Vec<Vec<Part>>, Stop>
-    ensures { Gives (λ v. (map parts v.items, tt)) terminals.new.items result (repeated item_next (one_item DEEPEST) tt terminals.old.items) }
+    ensures { GivesList parts terminals.new.items result (items_at DEEPEST terminals.old.items) }
 {
     let mut items = Vec::new(alloc);
     'more: while item_next(terminals) {
@@ -55,7 +54,8 @@ fn more_parts(
     kind: Kind,
     first: Part,
 ) -> Result<Vec<Part>, Stop>
-    ensures { Gives (λ v. (map part v.items, tt)) terminals.new.items result (ahead_of (part first ∷ []) (repeated comma_next (comma_step (part_at DEEPEST kind)) tt terminals.old.items)) }
+    ensures { GivesList part terminals.new.items result
+        (more_at (part_at DEEPEST kind) (part first) terminals.old.items) }
 {
     let mut parts = vec![in alloc; first]?;
     'more: while next_is(terminals, Mark::Comma) {
@@ -67,7 +67,8 @@ fn more_parts(
 
 // A part behind a comma.
 fn next_part(alloc: Global, terminals: &mut VecDeque<Terminal>, kind: Kind) -> Result<Part, Stop>
-    ensures { Gives (λ p. (part p, tt)) terminals.new.items result (comma_step (part_at DEEPEST kind) tt terminals.old.items) }
+    ensures { Gives (λ p. (part p, tt)) terminals.new.items result
+        (comma_step (part_at DEEPEST kind) tt terminals.old.items) }
 {
     expect(terminals, Mark::Comma)?;
     part(alloc, terminals, kind)
@@ -90,8 +91,8 @@ fn kind_from(terminals: &mut VecDeque<Terminal>, front: Terminal, left: usize) -
     ensures { Gives (λ k. k) terminals.new.items result (kind_at (front ∷ terminals.old.items)) }
 {
     match front {
-        Terminal::Gate(op) => Ok(Kind::Gate(op)),
-        Terminal::Mark(mark) => kind_at_mark(terminals, mark, left),
+        Terminal::GateWord(op) => Ok(Kind::Gate(op)),
+        Terminal::Fixed(mark) => kind_at_mark(terminals, mark, left),
         _ => Err(Stop::Bad(left, Wanted::Item)),
     }
 }
@@ -99,7 +100,8 @@ fn kind_from(terminals: &mut VecDeque<Terminal>, front: Terminal, left: usize) -
 // The kind of item that a mark begins, where it stands before so many terminals.
 fn kind_at_mark(terminals: &mut VecDeque<Terminal>, mark: Mark, left: usize) -> Result<Kind, Stop>
     requires { left ≡ suc (length terminals.old.items) }
-    ensures { Gives (λ k. k) terminals.new.items result (kind_at (Terminal.Mark mark ∷ terminals.old.items)) }
+    ensures { Gives (λ k. k) terminals.new.items result
+        (kind_at (Terminal.Fixed mark ∷ terminals.old.items)) }
 {
     let Some(kind) = kind_of(mark) else {
         return Err(Stop::Bad(left, Wanted::Item));

@@ -26,7 +26,7 @@ pub(crate) fn expect(terminals: &mut VecDeque<Terminal>, mark: Mark) -> Result<(
 {
     let left = terminals.len();
     match terminals.pop_front() {
-        Some(Terminal::Mark(found)) if found == mark => Ok(()),
+        Some(Terminal::Fixed(found)) if found == mark => Ok(()),
         _ => Err(Stop::Bad(left, Wanted::Other)),
     }
 }
@@ -35,7 +35,7 @@ pub(crate) fn expect(terminals: &mut VecDeque<Terminal>, mark: Mark) -> Result<(
 pub(crate) fn next_is(terminals: &VecDeque<Terminal>, mark: Mark) -> bool
     ensures { result ≡ next_is mark terminals.now.items }
 {
-    matches!(terminals.front(), Some(Terminal::Mark(found)) if *found == mark)
+    matches!(terminals.front(), Some(Terminal::Fixed(found)) if *found == mark)
 }
 
 // Takes a mark from the front, if it stands there.
@@ -71,7 +71,7 @@ pub(crate) fn name(terminals: &mut VecDeque<Terminal>) -> Result<Name, Stop>
 pub(crate) fn operator_at(terminals: &VecDeque<Terminal>, level: u8) -> Option<Operator>
     ensures { result ≡ operator_at level terminals.now.items }
 {
-    let Terminal::Mark(mark) = terminals.front()? else {
+    let Terminal::Fixed(mark) = terminals.front()? else {
         return None;
     };
     let operator = operator_of(*mark)?;

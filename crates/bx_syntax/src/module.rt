@@ -30,7 +30,8 @@ fn fields(
     alloc: Global,
     terminals: &mut VecDeque<Terminal>,
 ) -> Result<(Name, Vec<Port>, Vec<Vec<Part>>), Stop>
-    ensures { Gives (λ m. module_tree m.0 m.1.items m.2.items) terminals.new.items result (module_at DEEPEST terminals.old.items) }
+    ensures { Gives (λ m. module_tree m.0 m.1.items m.2.items) terminals.new.items result
+        (module_at DEEPEST terminals.old.items) }
 {
     expect(terminals, Mark::Module)?;
     let name = name(terminals)?;

@@ -1,10 +1,9 @@
 //! The reader of an item's parts: what stands between two of its commas.
-ghost use Rattle.std.specs.Prelude.{◌≡◌, [], ◌∷◌, map};
+ghost use Rattle.std.specs.Prelude.{◌≡◌};
 ghost use Rattle.bx_syntax.specs.Trees.{tree};
 ghost use Rattle.bx_syntax.specs.Parts.{part};
-ghost use Rattle.bx_syntax.specs.Repeats.{repeated, ahead_of};
-ghost use Rattle.bx_syntax.specs.ReadsModules.{expression, comma_next, comma_step, comma_behind_net, name_and_expression, wire_at, assign_at, many_at, few_at, connections_at, gate_at, part_at};
-ghost use Rattle.bx_syntax.specs.Gives.{Gives};
+ghost use Rattle.bx_syntax.specs.ReadsModules.{expression, comma_step, more_at, more_names_at, wire_at, assign_at, many_at, few_at, connections_at, driven_at, gate_at, part_at};
+ghost use Rattle.bx_syntax.specs.Gives.{Gives, GivesList};
 
 use crate::expression::{DEEPEST, expression};
 use crate::lookahead::{expect, name, next_is, skip_name};
@@ -54,7 +53,6 @@ fn wire(alloc: Global, terminals: &mut VecDeque<Terminal>) -> Result<Part, Stop>
     Ok(Part::Wire(name, Some(driver)))
 }
 
-// An assignment.
 #[tactic(auto, unfolding(crate::specs::ReadsModules::assign_at))]
 fn assign(alloc: Global, terminals: &mut VecDeque<Terminal>) -> Result<Part, Stop>
     ensures { Gives part terminals.new.items result (assign_at DEEPEST terminals.old.items) }
@@ -70,13 +68,21 @@ fn assign(alloc: Global, terminals: &mut VecDeque<Terminal>) -> Result<Part, Sto
 fn gate(alloc: Global, terminals: &mut VecDeque<Terminal>, op: Op) -> Result<Part, Stop>
     ensures { Gives part terminals.new.items result (gate_at DEEPEST op terminals.old.items) }
 {
-    skip_name(terminals);
-    expect(terminals, Mark::Open)?;
-    let driven = name(terminals)?;
-    expect(terminals, Mark::Comma)?;
+    let driven = driven(terminals)?;
     let gate = connections(alloc, terminals, op, driven)?;
     expect(terminals, Mark::Close)?;
     Ok(gate)
+}
+
+// The first name in the parentheses of a gate, behind its label and before the comma.
+fn driven(terminals: &mut VecDeque<Terminal>) -> Result<Name, Stop>
+    ensures { Gives (λ n. n) terminals.new.items result (driven_at terminals.old.items) }
+{
+    skip_name(terminals);
+    expect(terminals, Mark::Open)?;
+    let name = name(terminals)?;
+    expect(terminals, Mark::Comma)?;
+    Ok(name)
 }
 
 // What stands behind the first name in the parentheses of a gate.
@@ -86,7 +92,8 @@ fn connections(
     op: Op,
     driven: Name,
 ) -> Result<Part, Stop>
-    ensures { Gives part terminals.new.items result (connections_at DEEPEST op driven terminals.old.items) }
+    ensures { Gives part terminals.new.items result
+        (connections_at DEEPEST op driven terminals.old.items) }
 {
     match op {
         Op::Buf | Op::Not => few(alloc, terminals, op, driven),
@@ -104,7 +111,8 @@ fn many(
     op: Op,
     driven: Name,
 ) -> Result<Part, Stop>
-    ensures { Gives part terminals.new.items result (many_at DEEPEST op driven terminals.old.items) }
+    ensures { Gives part terminals.new.items result
+        (many_at DEEPEST op driven terminals.old.items) }
 {
     let first = expression(alloc, terminals)?;
     let arguments = more_expressions(alloc, terminals, first)?;
@@ -117,7 +125,8 @@ fn more_expressions(
     terminals: &mut VecDeque<Terminal>,
     first: Expr,
 ) -> Result<Vec<Expr>, Stop>
-    ensures { Gives (λ v. (map tree v.items, tt)) terminals.new.items result (ahead_of (tree first ∷ []) (repeated comma_next (comma_step (expression DEEPEST)) tt terminals.old.items)) }
+    ensures { GivesList tree terminals.new.items result
+        (more_at (expression DEEPEST) (tree first) terminals.old.items) }
 {
     let mut expressions = vec![in alloc; first]?;
     'more: while next_is(terminals, Mark::Comma) {
@@ -129,7 +138,8 @@ fn more_expressions(
 
 // An expression behind a comma.
 fn next_expression(alloc: Global, terminals: &mut VecDeque<Terminal>) -> Result<Expr, Stop>
-    ensures { Gives (λ e. (tree e, tt)) terminals.new.items result (comma_step (expression DEEPEST) tt terminals.old.items) }
+    ensures { Gives (λ e. (tree e, tt)) terminals.new.items result
+        (comma_step (expression DEEPEST) tt terminals.old.items) }
 {
     expect(terminals, Mark::Comma)?;
     expression(alloc, terminals)
@@ -158,7 +168,8 @@ fn more_names(
     first: Name,
     second: Expr,
 ) -> Result<(Vec<Name>, Expr), Stop>
-    ensures { Gives (λ x. (x.0.items, tree x.1)) terminals.new.items result (ahead_of (first ∷ []) (repeated comma_behind_net (name_and_expression DEEPEST) (tree second) terminals.old.items)) }
+    ensures { Gives (λ x. (x.0.items, tree x.1)) terminals.new.items result
+        (more_names_at DEEPEST first (tree second) terminals.old.items) }
 {
     let mut names = vec![in alloc; first]?;
     let mut last = second;

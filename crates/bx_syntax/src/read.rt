@@ -4,17 +4,16 @@ ghost use Rattle.std.specs.Prelude.{◌≡◌, ◌≢◌, ◌+◌, ◌<◌, ◌�
 ghost use Rattle.bx_lex.specs.Tokens.{HasTokens};
 ghost use Rattle.bx_syntax.specs.Parts.{ModuleTree};
 ghost use Rattle.bx_syntax.specs.Terminals.{terminals_of};
-ghost use Rattle.bx_syntax.specs.Grammar.{IsModule};
-ghost use Rattle.bx_syntax.specs.ReadsModules.{module_at};
+ghost use Rattle.bx_syntax.specs.ReadsModules.{StopsBy};
 ghost use Rattle.bx_syntax.specs.Constructs.{construct_behind, fault_with};
-ghost use Rattle.bx_syntax.specs.Faults.{place_of, HasReadFault};
+ghost use Rattle.bx_syntax.specs.Faults.{place_of, IsTreeOf, HasReadFault};
 ghost use Rattle.bx_syntax.specs.declared.fault.ReadFault.{ReadFault as Fault};
 
 use crate::construct::construct;
 use crate::fault::{Construct, ReadFault};
 use crate::module::module;
 use crate::stop::{Stop, Wanted};
-use crate::terminals::{terminal, terminals};
+use crate::terminals::terminals;
 use crate::tree::Module;
 use bx_lex::{Token, Tokens, laws};
 use std::alloc::Global;
@@ -28,19 +27,21 @@ pub fn read_module(alloc: Global, text: &[u8], tokens: &Tokens) -> Result<Module
     requires of_text { HasTokens text.now tokens.now }
     requires short { length text.now < 2 ^ 32 }
     // What is answered is the tree of the tokens, in which nothing nests deeper than 256.
-    ensures found { IfOk result (λ m. IsModule 256 m (terminals_of text.now tokens.now.tokens)) }
+    ensures found { IfOk result (IsTreeOf text.now tokens.now) }
     // Where the tokens have such a tree it is answered, unless memory runs out.
-    ensures only { (m : ModuleTree) → IsModule 256 m (terminals_of text.now tokens.now.tokens) →
+    ensures only { (m : ModuleTree) → IsTreeOf text.now tokens.now m →
         MatchResult result (λ x. x ≡ m) (λ e. e ≡ ReadFault.NoMemory) }
     // The fault that is answered is that of the tokens: what the first bad one is, and its place.
-    ensures faults { IfErr result (λ f. f ≢ ReadFault.NoMemory → HasReadFault text.now tokens.now f) }
+    ensures faults { IfErr result
+        (λ f. f ≢ ReadFault.NoMemory → HasReadFault text.now tokens.now f) }
     // Where the tokens have such a fault it is answered, unless memory runs out.
-    ensures exact { (f : Fault) → HasReadFault text.now tokens.now f → result ≢ Err ReadFault.NoMemory → result ≡ Err f }
+    ensures exact { (f : Fault) → HasReadFault text.now tokens.now f →
+        result ≢ Err ReadFault.NoMemory → result ≡ Err f }
 {
     laws::tokens_stand_in_order();
     match tree_of(alloc, text, tokens) {
         Ok(module) => Ok(module),
-        Err(stop) => Err(fault_of(alloc, text, tokens, stop)),
+        Err(stop) => Err(fault_of(text, tokens, stop)),
     }
 }
 
@@ -48,27 +49,30 @@ pub fn read_module(alloc: Global, text: &[u8], tokens: &Tokens) -> Result<Module
 fn tree_of(alloc: Global, text: &[u8], tokens: &Tokens) -> Result<Module, Stop>
     requires whole { tokens.now.end ≡ length text.now }
     requires few { length tokens.now.tokens < 2 ^ 32 }
-    ensures found { IfOk result (λ m. IsModule 256 m (terminals_of text.now tokens.now.tokens)) }
-    ensures only { (m : ModuleTree) → IsModule 256 m (terminals_of text.now tokens.now.tokens) →
+    ensures found { IfOk result (IsTreeOf text.now tokens.now) }
+    ensures only { (m : ModuleTree) → IsTreeOf text.now tokens.now m →
         MatchResult result (λ x. x ≡ m) (λ e. e ≡ Stop.NoMemory) }
-    ensures stops { IfErr result (λ e. e ≢ Stop.NoMemory → module_at 256 (terminals_of text.now tokens.now.tokens) ≡ Err e) }
+    ensures stops { IfErr result (λ e. e ≢ Stop.NoMemory → StopsBy text.now tokens.now e) }
 {
     let mut terminals = terminals(alloc, text, tokens)?;
     module(alloc, &mut terminals)
 }
 
-// The fault of a text whose reader stops so.
-fn fault_of(alloc: Global, text: &[u8], tokens: &Tokens, stop: Stop) -> ReadFault
+// The fault of a text whose reader stops so. It takes no memory, so that want of memory is told only
+// where a reader was refused some.
+fn fault_of(text: &[u8], tokens: &Tokens, stop: Stop) -> ReadFault
     requires whole { tokens.now.end ≡ length text.now }
-    requires stops { stop ≢ Stop.NoMemory → module_at 256 (terminals_of text.now tokens.now.tokens) ≡ Err stop }
+    requires stops { stop ≢ Stop.NoMemory → StopsBy text.now tokens.now stop }
     ensures memory { stop ≡ Stop.NoMemory → result ≡ ReadFault.NoMemory }
-    ensures fault { result ≢ ReadFault.NoMemory → HasReadFault text.now tokens.now result }
+    ensures fault { stop ≢ Stop.NoMemory → HasReadFault text.now tokens.now result }
 {
     match stop {
         Stop::NoMemory => ReadFault::NoMemory,
-        Stop::Bad(left, wanted) => match construct_at(alloc, text, tokens, left, wanted) {
-            Ok(construct) => fault_with(place(tokens, left), construct),
-            Err(_) => ReadFault::NoMemory,
+        Stop::Bad(left, wanted) => {
+            fault_with(
+                place(tokens, left),
+                construct_at(text, tokens, left, wanted),
+            )
         },
         Stop::Deep(left) => ReadFault::TooDeep(place(tokens, left)),
     }
@@ -84,22 +88,16 @@ fn fault_with(place: u64, construct: Option<Construct>) -> ReadFault
     }
 }
 
-// The construct of the terminal before which so many are left, where something else was wanted.
-fn construct_at(
-    alloc: Global,
-    text: &[u8],
-    tokens: &Tokens,
-    left: usize,
-    wanted: Wanted,
-) -> Result<Option<Construct>, Stop>
+// The construct of the token before which so many are left, where something else was wanted.
+fn construct_at(text: &[u8], tokens: &Tokens, left: usize, wanted: Wanted) -> Option<Construct>
     requires { tokens.now.end ≡ length text.now }
-    ensures { IfOk result (λ c. (k : ℕ) → left + k ≡ length tokens.now.tokens → c ≡ construct_behind wanted (slice_get (terminals_of text.now tokens.now.tokens) k)) }
+    ensures { (k : ℕ) → left + k ≡ length tokens.now.tokens →
+        result ≡ construct_behind wanted (slice_get (terminals_of text.now tokens.now.tokens) k) }
 {
     let Some(token) = token_at(tokens, left) else {
-        return Ok(None);
+        return None;
     };
-    let terminal = terminal(alloc, text, token)?;
-    Ok(construct(&terminal, wanted))
+    construct(text, token, wanted)
 }
 
 // The place of the token before which so many are left, or the end of the text.
@@ -114,7 +112,8 @@ fn place(tokens: &Tokens, left: usize) -> u64
 
 // The token before which so many tokens are left, if there are so many and one at all.
 fn token_at(tokens: &Tokens, left: usize) -> Option<Token>
-    ensures token { (k : ℕ) → left + k ≡ length tokens.now.tokens → result ≡ slice_get tokens.now.tokens k }
+    ensures token { (k : ℕ) → left + k ≡ length tokens.now.tokens →
+        result ≡ slice_get tokens.now.tokens k }
     ensures inside { IfSome result (λ t. (t.start < t.end) × (t.end ≤ tokens.now.end)) }
 {
     let k = tokens.len().checked_sub(left as u64)?;

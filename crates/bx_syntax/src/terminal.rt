@@ -4,7 +4,7 @@
 
 use bx_logic::{Name, Op};
 
-/// A word or a symbol that the grammar names by its spelling.
+/// A word or a symbol that the grammar has in this spelling alone.
 #[derive(Clone, Copy, PartialEq, Eq)]
 pub enum Mark {
     Module,
@@ -29,9 +29,9 @@ pub enum Mark {
 /// A token as the grammar sees it.
 #[derive(Drop)]
 pub enum Terminal {
-    Mark(Mark),
+    Fixed(Mark),
     /// The keyword of a gate.
-    Gate(Op),
+    GateWord(Op),
     /// A word that isn't reserved, or an escaped word.
     Name(Name),
     /// `1'`, the letter of a base, and `0` or `1`.

@@ -17,7 +17,6 @@ use std::collections::VecDeque;
 // The letters of a base.
 const BASES: &[u8] = b"bBoOdDhH";
 
-// The terminals of a text.
 pub(crate) fn terminals(
     alloc: Global,
     text: &[u8],
@@ -35,9 +34,8 @@ pub(crate) fn terminals(
     Ok(terminals)
 }
 
-// The terminal of a token.
 #[tactic(auto, unfolding(crate::specs::Terminals::terminal_of))]
-pub(crate) fn terminal(alloc: Global, text: &[u8], token: Token) -> Result<Terminal, Stop>
+fn terminal(alloc: Global, text: &[u8], token: Token) -> Result<Terminal, Stop>
     requires order { token.start < token.end }
     requires inside { token.end ≤ length text.now }
     ensures found { IfOk result (λ t. t ≡ terminal_of text.now token) }
@@ -52,7 +50,6 @@ pub(crate) fn terminal(alloc: Global, text: &[u8], token: Token) -> Result<Termi
     }
 }
 
-// The terminal of a word's bytes.
 fn word_terminal(alloc: Global, bytes: &[u8]) -> Result<Terminal, Stop>
     ensures found { IfOk result (λ t. t ≡ word_terminal bytes.now) }
     ensures failed { IfErr result (λ e. e ≡ Stop.NoMemory) }
@@ -64,24 +61,23 @@ fn word_terminal(alloc: Global, bytes: &[u8]) -> Result<Terminal, Stop>
 }
 
 // The place of a word in the table of reserved words.
-fn place_of(word: &[u8], words: &[&str]) -> Option<usize>
+pub(crate) fn place_of(word: &[u8], words: &[&str]) -> Option<usize>
     ensures { result ≡ position (λ w. bytes_eq word.now w.now) words.now }
 {
     words.iter().position(|w| word == w.as_bytes())
 }
 
 // The terminal of the reserved word at a place of the table.
-fn word_of(place: usize) -> Terminal
+pub(crate) fn word_of(place: usize) -> Terminal
     ensures { result ≡ word_of (slice_get USED place) }
 {
     match USED.get(place) {
-        Some(Word::Mark(mark)) => Terminal::Mark(*mark),
-        Some(Word::Gate(op)) => Terminal::Gate(*op),
+        Some(Word::Mark(mark)) => Terminal::Fixed(*mark),
+        Some(Word::Gate(op)) => Terminal::GateWord(*op),
         None => Terminal::Reserved,
     }
 }
 
-// A name with these bytes.
 fn name_terminal(alloc: Global, bytes: &[u8]) -> Result<Terminal, Stop>
     ensures found { IfOk result (λ t. t ≡ Terminal.Name bytes.now) }
     ensures failed { IfErr result (λ e. e ≡ Stop.NoMemory) }
@@ -90,8 +86,7 @@ fn name_terminal(alloc: Global, bytes: &[u8]) -> Result<Terminal, Stop>
     Ok(Terminal::Name(Name::new(bytes)))
 }
 
-// The terminal of a number's bytes.
-fn number_terminal(bytes: &[u8]) -> Terminal
+pub(crate) fn number_terminal(bytes: &[u8]) -> Terminal
     ensures { result ≡ number_terminal bytes.now }
 {
     match bytes {
@@ -101,22 +96,20 @@ fn number_terminal(bytes: &[u8]) -> Terminal
     }
 }
 
-// The terminal of a symbol's bytes.
-fn symbol_terminal(bytes: &[u8]) -> Terminal
+pub(crate) fn symbol_terminal(bytes: &[u8]) -> Terminal
     ensures { result ≡ symbol_terminal bytes.now }
 {
     match bytes {
         [byte] => match one_symbol(*byte) {
-            Some(mark) => Terminal::Mark(mark),
+            Some(mark) => Terminal::Fixed(mark),
             None => Terminal::Symbol(*byte),
         },
-        [b'~', b'^'] | [b'^', b'~'] => Terminal::Mark(Mark::TildeCaret),
+        [b'~', b'^'] | [b'^', b'~'] => Terminal::Fixed(Mark::TildeCaret),
         [first, ..] => Terminal::Symbol(*first),
         [] => Terminal::Symbol(0),
     }
 }
 
-// The mark that a byte is.
 fn one_symbol(byte: u8) -> Option<Mark>
     ensures { result ≡ one_symbol byte }
 {

@@ -74,9 +74,7 @@ module _ (limit : ℕ) where
             (omega (arith, some, length-net_numbers f first (map formula es))),
       )
   gate-fed op (copies o ns e) ts rest h = this-fed ns o (formula e ∷ []) (one-fed o (formula e))
-  gate-fed op (declaration d n) ts rest h = absurd h
-  gate-fed op (wire n e) ts rest h = absurd h
-  gate-fed op (assign n e) ts rest h = absurd h
+  gate-fed op _ ts rest h = absurd h
 
   part-fed : (k : Kind) (p : PartTree) (ts rest : List Terminal) → IsPart limit k p ts rest → IsPartFed p
   part-fed (Gate op) p ts rest (a, label, is) = gate-fed op p a rest is
@@ -98,12 +96,6 @@ pub part-arity : (m : ModuleTree) → IsTree m → (p : PartTree) → Contains (
 part-arity m tree p c =
     let (i, h, k) = Member-flat_map_cases (λ (item : List PartTree). item) p m.items (Member-from_contains p (parts_of m) c) in
     items-fed 256 m.items tree.is_module.body tree.is_module.last tree.is_module.items i h p k
-
--- a gate of several arguments has one at least
-pub gate-some : (m : ModuleTree) → IsTree m → (op : Op) (n : Text) (es : List Tree) → Contains (parts_of m) (gate op n es) → 0 < length es
-gate-some m tree op n es c =
-    let fed = part-arity m tree (gate op n es) c (drive (n ∷ []) op (map formula es)) (inl refl) in
-    omega (arith, fed.0, length-map es formula)
 
 pub drive-arity : (m : ModuleTree) → IsTree m → (d : Drive) → Contains (drives m) d → (0 < length d.arguments) × ((f : Text → ℕ) (first : ℕ) → HasArity d.op (net_numbers f first d.arguments))
 drive-arity m tree d c =

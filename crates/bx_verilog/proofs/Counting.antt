@@ -18,27 +18,27 @@ use Rattle.bx_verilog.specs.declared.mentions.Mention.{Mention as Found}
 use Rattle.bx_verilog.specs.Mentions.{firsts, Mention, mentions, names, is_header, is_directed, is_input, is_output, is_driven, is_read}
 use Rattle.bx_verilog.specs.Shown.{shown, number_among}
 use Rattle.bx_verilog.proofs.Firsts.{contains-firsts, firsts-distinct, same_texts, same_bytes, other_texts, text-at}
-use Rattle.bx_verilog.specs.Uses.{count_among, uses_among, counted, noted, HasRoom, AreUses}
+use Rattle.bx_verilog.specs.Uses.{count_among, uses_among, count_and, uses_and, HasRoom, AreUses}
 
-counted-sum : (b : Bool) (k : ℕ) → k + cond b 1 0 ≡ counted b k
+counted-sum : (b : Bool) (k : ℕ) → k + cond b 1 0 ≡ count_and b k
 counted-sum true k = refl
 counted-sum false k = omega arith
 
 count_among-push : (test : Role → Bool) (found : List Mention) (x : Mention) (n : Text) →
-    count_among test (found ++ x ∷ []) n ≡ counted (bytes_eq n x.0 && test x.1) (count_among test found n)
+    count_among test (found ++ x ∷ []) n ≡ count_and (bytes_eq n x.0 && test x.1) (count_among test found n)
 count_among-push test found x n =
     sum_by_push (λ (y : Mention). cond (bytes_eq n y.0 && test y.1) 1 0) found x
     ∙ counted-sum (bytes_eq n x.0 && test x.1) (count_among test found n)
 
 count_among-same : (test : Role → Bool) (found : List Mention) (x : Mention) (n : Text) → bytes_eq n x.0 ≡ true →
-    count_among test (found ++ x ∷ []) n ≡ counted (test x.1) (count_among test found n)
+    count_among test (found ++ x ∷ []) n ≡ count_and (test x.1) (count_among test found n)
 count_among-same test found x n e =
-    count_among-push test found x n ∙ ap (λ (b : Bool). counted (b && test x.1) (count_among test found n)) e
+    count_among-push test found x n ∙ ap (λ (b : Bool). count_and (b && test x.1) (count_among test found n)) e
 
 count_among-other : (test : Role → Bool) (found : List Mention) (x : Mention) (n : Text) → bytes_eq n x.0 ≡ false →
     count_among test (found ++ x ∷ []) n ≡ count_among test found n
 count_among-other test found x n e =
-    count_among-push test found x n ∙ ap (λ (b : Bool). counted (b && test x.1) (count_among test found n)) e
+    count_among-push test found x n ∙ ap (λ (b : Bool). count_and (b && test x.1) (count_among test found n)) e
 
 six : (f : ℕ → ℕ → ℕ → ℕ → ℕ → ℕ → Uses) → (a a' : ℕ) → a ≡ a' → (b b' : ℕ) → b ≡ b' → (c c' : ℕ) → c ≡ c' → (d d' : ℕ) → d ≡ d' → (e e' : ℕ) → e ≡ e' → (g g' : ℕ) → g ≡ g' →
     f a b c d e g ≡ f a' b' c' d' e' g'
@@ -50,9 +50,9 @@ same_uses u v a b c d e f =
     u.header v.header a u.directed v.directed b u.input v.input c u.output v.output d u.driven v.driven e u.read v.read f
 
 uses_among-same : (found : List Mention) (x : Mention) (n : Text) → bytes_eq n x.0 ≡ true →
-    uses_among (found ++ x ∷ []) n ≡ noted x.1 (uses_among found n)
+    uses_among (found ++ x ∷ []) n ≡ uses_and x.1 (uses_among found n)
 uses_among-same found x n e =
-    same_uses (uses_among (found ++ x ∷ []) n) (noted x.1 (uses_among found n))
+    same_uses (uses_among (found ++ x ∷ []) n) (uses_and x.1 (uses_among found n))
     (count_among-same is_header found x n e) (count_among-same is_directed found x n e) (count_among-same is_input found x n e)
     (count_among-same is_output found x n e) (count_among-same is_driven found x n e) (count_among-same is_read found x n e)
 
@@ -75,38 +75,38 @@ all_others found x (n ∷ ns) h =
     let tail = all_others found x ns h.1 in
     cc
 
--- the uses with those at one place noted
-abbrev noted_at : Role → List Uses → ℕ → Uses → List Uses
-noted_at role us k d = set us k (noted role (get_or us k d))
+-- the uses with one more at one place
+abbrev uses_and_at : Role → List Uses → ℕ → Uses → List Uses
+uses_and_at role us k d = set us k (uses_and role (get_or us k d))
 
-noted_here : (found : List Mention) (x : Mention) (n : Text) (ns : List Text) (d : Uses) → AreDistinct (n ∷ ns) → n ≡ x.0 →
-    map (uses_among (found ++ x ∷ [])) (n ∷ ns) ≡ noted_at x.1 (map (uses_among found) (n ∷ ns)) 0 d
-noted_here found x n ns d h e =
+uses_and_here : (found : List Mention) (x : Mention) (n : Text) (ns : List Text) (d : Uses) → AreDistinct (n ∷ ns) → n ≡ x.0 →
+    map (uses_among (found ++ x ∷ [])) (n ∷ ns) ≡ uses_and_at x.1 (map (uses_among found) (n ∷ ns)) 0 d
+uses_and_here found x n ns d h e =
     let head = uses_among-same found x n (same_bytes n x.0 e) in
     let others : AllByRecursion (λ other. other ≡ x.0 → ⊥) ns = subst (λ (t : Text). AllByRecursion (λ other. other ≡ t → ⊥) ns) e h.0 in
     let tail = all_others found x ns others in
     cc
 
-noted_later : (found : List Mention) (x : Mention) (n : Text) (ns : List Text) (k : ℕ) (d : Uses) → bytes_eq n x.0 ≡ false →
-    map (uses_among (found ++ x ∷ [])) ns ≡ noted_at x.1 (map (uses_among found) ns) k d →
-    map (uses_among (found ++ x ∷ [])) (n ∷ ns) ≡ noted_at x.1 (map (uses_among found) (n ∷ ns)) (1 + k) d
-noted_later found x n ns k d e h =
+uses_and_later : (found : List Mention) (x : Mention) (n : Text) (ns : List Text) (k : ℕ) (d : Uses) → bytes_eq n x.0 ≡ false →
+    map (uses_among (found ++ x ∷ [])) ns ≡ uses_and_at x.1 (map (uses_among found) ns) k d →
+    map (uses_among (found ++ x ∷ [])) (n ∷ ns) ≡ uses_and_at x.1 (map (uses_among found) (n ∷ ns)) (1 + k) d
+uses_and_later found x n ns k d e h =
     let head = uses_among-other found x n e in
     let place : suc k ≡ 1 + k = omega arith in
-    subst (λ (i : ℕ). map (uses_among (found ++ x ∷ [])) (n ∷ ns) ≡ noted_at x.1 (map (uses_among found) (n ∷ ns)) i d) place cc
+    subst (λ (i : ℕ). map (uses_among (found ++ x ∷ [])) (n ∷ ns) ≡ uses_and_at x.1 (map (uses_among found) (n ∷ ns)) i d) place cc
 
 -- a mention is noted at its name's number
-pub uses_among-noted : (found : List Mention) (x : Mention) (ns : List Text) (d : Uses) → AreDistinct ns →
-    map (uses_among (found ++ x ∷ [])) ns ≡ noted_at x.1 (map (uses_among found) ns) (number_among ns x.0) d
-uses_among-noted found x [] d h = refl
-uses_among-noted found x (n ∷ ns) d h =
+pub uses_among-push : (found : List Mention) (x : Mention) (ns : List Text) (d : Uses) → AreDistinct ns →
+    map (uses_among (found ++ x ∷ [])) ns ≡ uses_and_at x.1 (map (uses_among found) ns) (number_among ns x.0) d
+uses_among-push found x [] d h = refl
+uses_among-push found x (n ∷ ns) d h =
     let Noted = λ (b : Bool). map (uses_among (found ++ x ∷ [])) (n ∷ ns)
-    ≡ noted_at x.1 (map (uses_among found) (n ∷ ns)) (cond (not b) (1 + number_among ns x.0) 0) d in
+    ≡ uses_and_at x.1 (map (uses_among found) (n ∷ ns)) (cond (not b) (1 + number_among ns x.0) 0) d in
     elim (cases_Bool (bytes_eq x.0 n)) [
-      | inl e ↦ subst Noted (sym e) (noted_here found x n ns d h (sym (same_texts x.0 n e)))
-      | inr e ↦ subst Noted (sym e) (noted_later found x n ns (number_among ns x.0) d
+      | inl e ↦ subst Noted (sym e) (uses_and_here found x n ns d h (sym (same_texts x.0 n e)))
+      | inr e ↦ subst Noted (sym e) (uses_and_later found x n ns (number_among ns x.0) d
           (differs n x.0 (λ same. other_texts x.0 n e (sym same)))
-          (uses_among-noted found x ns d h.1))
+          (uses_among-push found x ns d h.1))
     ]
 
 pub uses_among-room : (found : List Mention) (n : Text) → length found + 1 < 2 ^ 64 → HasRoom (uses_among found n)
@@ -170,10 +170,10 @@ module _ (found : List Found) (i : ℕ) (d : Found) (ns : List Text) (us : List 
       subst HasRoom (sym same) (uses_among-room earlier (get_or ns k []) short)
 
   pub uses-more : (old new : Uses) → AreNames → AreCounted → i < length found → IsNumber →
-      old ≡ get_or us k old → new ≡ noted item.role old → set us k new ≡ map (uses_among (map shown (take (i + 1) found))) ns
+      old ≡ get_or us k old → new ≡ uses_and item.role old → set us k new ≡ map (uses_among (map shown (take (i + 1) found))) ns
   uses-more old new names_are counts low number is now =
       let distinct : AreDistinct ns = subst AreDistinct (sym names_are) (firsts-distinct (map (λ (x : Found). x.name.now) found)) in
-      let one = uses_among-noted earlier (shown item) ns old distinct in
+      let one = uses_among-push earlier (shown item) ns old distinct in
       let more = map_more shown found i d low in
       let us_now : set us k new ≡ map (uses_among (earlier ++ shown item ∷ [])) ns = cc in
       us_now ∙ ap (λ (all : List Mention). map (uses_among all) ns) (sym more)

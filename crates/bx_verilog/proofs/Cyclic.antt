@@ -153,9 +153,7 @@ module _ (m : ModuleTree) where
   -- a part's net is below what stands behind it
   net-below : (first : ℕ) (f : Formula) → AreNames (names_of f) → name_count m ≤ first → net_number (number m) first f < first + own f
   net-below first (named n) are h = let l = number-within m n (are n (Contains-here n [])) in omega (arith, l)
-  net-below first (constant b) are h = omega arith
-  net-below first (negation f) are h = omega arith
-  net-below first (pair o f g) are h = omega arith
+  net-below first _ are h = omega arith
 
   -- it is a name's net, or reads a net of a part of it, which has a smaller number
   abbrev ReadsPart : List Text → ℕ → ℕ → Type 0
@@ -198,9 +196,7 @@ module _ (m : ModuleTree) where
       ((k : Text) → Contains (names_of f) k → Contains ns k) → Contains (names m) n → number m n ≡ net_number (number m) first f → Contains ns n
   formula-at-name ns first (named k) n are l among c e =
       let i = among k (Contains-here k []) in subst (λ (x : Text). Contains ns x) (same-number k n (are k i) c (sym e)) i
-  formula-at-name ns first (constant b) n are l among c e = let h = number-within m n c in absurd (omega (arith, h))
-  formula-at-name ns first (negation f) n are l among c e = let h = number-within m n c in absurd (omega (arith, h))
-  formula-at-name ns first (pair o f g) n are l among c e = let h = number-within m n c in absurd (omega (arith, h))
+  formula-at-name ns first _ n are l among c e = let h = number-within m n c in absurd (omega (arith, h))
 
   part-at-name : (ns : List Text) (n : Text) → AreNames ns → IsPartNet ns (number m n) → Contains (names m) n → Contains ns n
   part-at-name ns n are part c = formula-at-name ns part.first part.formula n are part.behind part.among c part.is

@@ -50,9 +50,7 @@ module _ (numbered : Text → ℕ) (nets : ℕ) where
 
   net-within : (first : ℕ) (x : Formula) → AreNumbered x → first + own x ≤ nets → net_number numbered first x < nets
   net-within first (named n) are l = are n (inl refl)
-  net-within first (constant b) are l = omega arith
-  net-within first (negation x) are l = omega arith
-  net-within first (pair o x y) are l = omega arith
+  net-within first _ are l = omega arith
 
   nets-within : (first : ℕ) (xs : List Formula) → AllNumbered xs → first + all_own xs ≤ nets → AllByRecursion (λ k. k < nets) (net_numbers numbered first xs)
   nets-within first [] are l = tt
@@ -63,9 +61,7 @@ module _ (numbered : Text → ℕ) (nets : ℕ) where
 
   operation-arity : (o : Operator) (a b : ℕ) → HasArity (operation o) (a ∷ b ∷ [])
   operation-arity And a b = omega arith
-  operation-arity Or a b = omega arith
-  operation-arity Xor a b = omega arith
-  operation-arity Xnor a b = omega arith
+  operation-arity _ a b = omega arith
 
   one-driver : (d : Driver) → IsDriver 0 nets d → All (IsDriver 0 nets) (d ∷ [])
   one-driver d h = All-from_recursion (IsDriver 0 nets) (d ∷ []) (h, tt)
@@ -227,8 +223,7 @@ input-numbered m driven i l =
 
 not-input : (nets i : ℕ) (d : Driver) → IsDriver 0 nets d → d ≡ Input i → ⊥
 not-input nets i (Input j) h e = omega arith
-not-input nets i (Constant b) h e = cc
-not-input nets i (Gate op ks) h e = cc
+not-input nets i _ h e = cc
 
 -- no other net is
 only-input : (m : ModuleTree) (i k : ℕ) → i < length (inputs m) → driver_at (net_of m).drivers k ≡ Input i → k ≡ number m (get_or (inputs m) i [])

@@ -219,10 +219,7 @@ module _ (m : ModuleTree) where
 
 output-directed : (r : Role) → is_output r ≡ true → is_directed r ≡ true
 output-directed (Directed d) e = refl
-output-directed Header e = e
-output-directed Wired e = e
-output-directed Driven e = e
-output-directed Read e = e
+output-directed _ e = e
 
 pub some-output : (m : ModuleTree) (all : List Text) (uses : List Uses) → AreUses m all uses → HasPorts m → list_any (λ (u : Uses). ltb 0 u.output) uses ≡ true → 0 < length (outputs m)
 some-output m all uses are ports some =

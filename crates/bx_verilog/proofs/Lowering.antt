@@ -22,12 +22,6 @@ pub lowered_length : (names : List Text) (before after : List Driver) (f : Formu
 lowered_length names before after f place h =
     ap length h.drivers ∙ (length-append before (own_drivers (number_among names) (length names + length before) f) ∙ ap (λ n. length before + n) (length-own_drivers (number_among names) (length names + length before) f))
 
-pub lowered_named : (names : List Text) (before : List Driver) (n : Text) → IsLowered names before before (named n) (number_among names n)
-lowered_named names before n = record { drivers = sym (append-nil before); number = refl }
-
-pub lowered_constant : (names : List Text) (before after : List Driver) (b : _) (place : ℕ) → after ≡ before ++ Constant b ∷ [] → place ≡ length names + length before → IsLowered names before after (constant b) place
-lowered_constant names before after b place d n = record { drivers = d; number = n }
-
 pub lowered_negation : (names : List Text) (before middle after : List Driver) (f : Formula) (place last : ℕ) → IsLowered names before middle f place → after ≡ middle ++ Gate NotGate (place ∷ []) ∷ [] → last ≡ length names + length middle →
     IsLowered names before after (negation f) last
 lowered_negation names before middle after f place last h d n =
@@ -150,9 +144,6 @@ net_numbers-append numbered first next (f ∷ fs) gs e = ap (λ ns. net_number n
 pub all_lowered_length : (names : List Text) (before after : List Driver) (fs : List Formula) (places : List ℕ) → AreLowered names before after fs places → length after ≡ length before + all_own fs
 all_lowered_length names before after fs places h =
     ap length h.drivers ∙ (length-append before (all_own_drivers (number_among names) (length names + length before) fs) ∙ ap (λ n. length before + n) (length-all_own_drivers (number_among names) (length names + length before) fs))
-
-pub lowered_none : (names : List Text) (before : List Driver) → AreLowered names before before [] []
-lowered_none names before = record { drivers = sym (append-nil before); numbers = refl }
 
 all_lowered_more : (names : List Text) (before middle after : List Driver) (fs : List Formula) (f : Formula) (places : List ℕ) (place : ℕ) → AreLowered names before middle fs places → IsLowered names middle after f place →
     AreLowered names before after (fs ++ f ∷ []) (places ++ place ∷ [])

@@ -100,12 +100,9 @@ abbrev equation : Drive → Text → Equation
 equation d n = record { target = n; op = d.op; arguments = d.arguments }
 
 driven-role : (r : Role) → is_driven r ≡ true → (r ≡ Driven) ⊎ (r ≡ Directed Input)
-driven-role Header e = cc
 driven-role (Directed Input) e = inr refl
-driven-role (Directed Output) e = cc
-driven-role Wired e = cc
 driven-role Driven e = inl refl
-driven-role Read e = cc
+driven-role _ e = cc
 
 -- the value of a name's net: its own, but the constant where nothing but a constant drives it
 abbrev settled : Driver → Bool → Bool

@@ -1,6 +1,6 @@
 -- The net of a module. Its names come first, numbered by first appearance; behind them come the nets
 -- of what its expressions have besides names, in the order of the text, operands before what joins them.
-use Rattle.std.specs.Prelude.{◌≡◌, ℕ, ◌+◌, false, List, [], ◌∷◌, ◌++◌, map, length, position, Option, Some, None, if◌then◌else◌, Result, Ok, Err}
+use Rattle.std.specs.Prelude.{◌≡◌, ◌≢◌, ℕ, ◌+◌, false, List, [], ◌∷◌, ◌++◌, map, length, position, Option, Some, None, if◌then◌else◌, Result, Ok, Err}
 use Rattle.std.specs.List.{list_any}
 use Rattle.std.specs.Option.{option_or}
 use Rattle.std.specs.Str.{bytes_eq}
@@ -10,6 +10,7 @@ use Rattle.bx_logic.specs.declared.driver.Driver.TheVariants.{Input, Constant, G
 use Rattle.bx_logic.specs.Nets.{Netlist, netlist}
 use Rattle.bx_syntax.specs.Parts.{ModuleTree}
 use Rattle.bx_verilog.specs.declared.fault.NetFault.{NetFault}
+use Rattle.bx_verilog.specs.declared.fault.NetFault.TheVariants.{NoMemory}
 use Rattle.bx_verilog.specs.Formulas.{Text, Formula, named, constant, negation, pair, operation}
 use Rattle.bx_verilog.specs.Drives.{Drive, drives}
 use Rattle.bx_verilog.specs.Mentions.{names, number, inputs, outputs}
@@ -87,6 +88,13 @@ net_of m =
     (map (driver_of m) (names m) ++ inner_drivers (number m) (name_count m) (drives m))
 
 -- what a module gives: its net, or its first fault
-abbrev pub Elaborates : ModuleTree → Result Netlist NetFault → Type 0
+abbrev pub Meaning : Type 0
+Meaning = Result Netlist NetFault
+
+abbrev pub Elaborates : ModuleTree → Meaning → Type 0
 Elaborates m (Ok net) = IsAccepted m × (net ≡ net_of m)
 Elaborates m (Err fault) = IsFault m fault
+
+-- what is told is the first fault of the module, unless it is want of memory
+abbrev pub IsTold : ModuleTree → NetFault → Type 0
+IsTold m fault = fault ≢ NoMemory → Elaborates m (Err fault)

@@ -4,9 +4,9 @@ use Rattle.std.specs.List.{AllByRecursion, AllZip}
 use Rattle.bx_logic.specs.declared.op.Op.{Op}
 use Rattle.bx_logic.specs.Op.{op_value}
 use Rattle.bx_logic.specs.Behaviours.{Behaviour}
-use Rattle.bx_syntax.specs.Parts.{ModuleTree}
+use Rattle.bx_syntax.specs.Parts.{PartTree, ModuleTree}
 use Rattle.bx_verilog.specs.Formulas.{Text, Formula, formula_value}
-use Rattle.bx_verilog.specs.Drives.{Drive, drives}
+use Rattle.bx_verilog.specs.Drives.{Drive, drives_of, drives}
 use Rattle.bx_verilog.specs.Mentions.{inputs, outputs}
 
 -- the name `target` has the value of an operation over those of its arguments
@@ -21,9 +21,16 @@ pub record Module : Type 0 where
   pub outputs : List Text
   pub equations : List Equation
 
+abbrev pub equate : Text → Op → List Formula → Equation
+equate target op arguments = record { target = target; op = op; arguments = arguments }
+
 -- an equation for each name that is driven
 abbrev pub equations_of : Drive → List Equation
-equations_of d = map (λ n. record { target = n; op = d.op; arguments = d.arguments }) d.targets
+equations_of d = map (λ n. equate n d.op d.arguments) d.targets
+
+-- the equations that a part of an item stands for
+abbrev pub says : PartTree → List Equation
+says p = flat_map equations_of (drives_of p)
 
 abbrev pub module_of : ModuleTree → Module
 module_of m = record { inputs = inputs m; outputs = outputs m; equations = flat_map equations_of (drives m) }

@@ -49,14 +49,14 @@ cycle = from_a_to_y (
     )
 
 -- a port of the header with a direction
-abbrev directed : Direction → Text → Port
-directed d n = record { name = n; direction = Some d }
+abbrev port_with : Direction → Text → Port
+port_with d n = record { name = n; direction = Some d }
 
 -- `module m(output y); wire q; not (y, p); not (p, q); not (q, p); endmodule`: the wire comes before p
 abbrev pub cycle_of_wire : ModuleTree
 cycle_of_wire = record {
   name = codes "m";
-  ports = directed Output (codes "y") ∷ [];
+  ports = port_with Output (codes "y") ∷ [];
   items = map (λ part. part ∷ []) (
       wire (codes "q") None
       ∷ copies Not (codes "y" ∷ []) (net (codes "p"))
@@ -67,10 +67,10 @@ cycle_of_wire = record {
 }
 
 -- `module m(input a, input b, output y); wire w; not (p, y, a & ~b); endmodule`
-abbrev pub accepted : ModuleTree
-accepted = record {
+abbrev pub two_nots : ModuleTree
+two_nots = record {
   name = codes "m";
-  ports = directed Input (codes "a") ∷ directed Input (codes "b") ∷ directed Output (codes "y") ∷ [];
+  ports = port_with Input (codes "a") ∷ port_with Input (codes "b") ∷ port_with Output (codes "y") ∷ [];
   items = map (λ part. part ∷ []) (
       wire (codes "w") None
       ∷ copies Not (codes "p" ∷ codes "y" ∷ []) (joined (net (codes "a")) AndSign (inverse (net (codes "b"))) done)
@@ -79,8 +79,8 @@ accepted = record {
 }
 
 -- Its net: the names a, b, y, w and p are 0 to 4. Behind them `~b` is 5, and `a & ~b`, which both gates read, is 6.
-abbrev pub accepted_net : Netlist
-accepted_net =
+abbrev pub two_nots_net : Netlist
+two_nots_net =
     netlist (codes "m") (codes "a" ∷ codes "b" ∷ []) ((codes "y", 2) ∷ [])
     (
     InputDriver 0
@@ -94,8 +94,8 @@ accepted_net =
     )
 
 -- `module m(b, a, y); input a; input b; output y; wire w; assign y = ~q & ~p; endmodule`
-abbrev pub ordered : ModuleTree
-ordered = example (codes "b" ∷ codes "a" ∷ codes "y" ∷ []) (
+abbrev pub port_order : ModuleTree
+port_order = example (codes "b" ∷ codes "a" ∷ codes "y" ∷ []) (
     declaration Input (codes "a")
     ∷ declaration Input (codes "b")
     ∷ declaration Output (codes "y")

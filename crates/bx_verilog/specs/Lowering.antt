@@ -4,6 +4,7 @@ use Rattle.std.specs.List.{AllByRecursion}
 use Rattle.std.specs.declared.alloc.Global.{Global}
 use Rattle.std.specs.Str.{bytes_eq}
 use Rattle.bx_logic.specs.declared.driver.Driver.{Driver}
+use Rattle.bx_syntax.specs.declared.tree.Expr.{Expr}
 use Rattle.bx_syntax.specs.declared.tree.Part.{Part}
 use Rattle.bx_syntax.specs.Trees.{tree}
 use Rattle.bx_syntax.specs.Parts.{part}
@@ -23,6 +24,14 @@ pub record IsLowered (names : List Text) (before after : List Driver) (f : Formu
 pub record AreLowered (names : List Text) (before after : List Driver) (fs : List Formula) (nets : List ℕ) : Type 0 where
   pub drivers : after ≡ before ++ all_own_drivers (number_among names) (length names + length before) fs
   pub numbers : nets ≡ net_numbers (number_among names) (length names + length before) fs
+
+-- with so many nets more there are fewer than 2 ^ 32
+abbrev pub NetsFit : List Text → List Driver → ℕ → Type 0
+NetsFit names inner more = length names + length inner + more < 4294967296
+
+-- what the code's expressions say
+abbrev pub formulas : List Expr → List Formula
+formulas exprs = map formula (map tree exprs)
 
 -- what the code's drive is, without where it lies in memory
 abbrev pub shown_drive : Found → Drive

@@ -23,18 +23,18 @@ uses_among found n = record {
 }
 
 -- a count, one more where the test passes
-abbrev pub counted : Bool → ℕ → ℕ
-counted passes n = if passes then n + 1 else n
+abbrev pub count_and : Bool → ℕ → ℕ
+count_and passes n = if passes then n + 1 else n
 
 -- the uses of a name that stands for one thing more
-abbrev pub noted : Role → Uses → Uses
-noted role u = record {
-  header = counted (is_header role) u.header;
-  directed = counted (is_directed role) u.directed;
-  input = counted (is_input role) u.input;
-  output = counted (is_output role) u.output;
-  driven = counted (is_driven role) u.driven;
-  read = counted (is_read role) u.read;
+abbrev pub uses_and : Role → Uses → Uses
+uses_and role u = record {
+  header = count_and (is_header role) u.header;
+  directed = count_and (is_directed role) u.directed;
+  input = count_and (is_input role) u.input;
+  output = count_and (is_output role) u.output;
+  driven = count_and (is_driven role) u.driven;
+  read = count_and (is_read role) u.read;
 }
 
 -- one more of each can be counted

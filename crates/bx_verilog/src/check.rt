@@ -23,7 +23,8 @@ pub(crate) fn check(alloc: Global, names: &Names, uses: &[Uses]) -> Result<(), N
     requires { length uses.now ≡ length names.now }
     ensures driven { OnOk result ((m : ModuleTree) → AreUses m names.now uses.now → IsDriven m) }
     ensures faults { IfErr result
-        (λ fault. fault ≢ NetFault.NoMemory → (m : ModuleTree) → AreUses m names.now uses.now → IsFault m fault) }
+        (λ fault. fault ≢ NetFault.NoMemory →
+        (m : ModuleTree) → AreUses m names.now uses.now → IsFault m fault) }
 {
     Flaw::Port.rule_out(alloc, names, uses)?;
     if !has_output(uses) {
@@ -50,7 +51,8 @@ impl Flaw {
     fn rule_out(self, alloc: Global, names: &Names, uses: &[Uses]) -> Result<(), NetFault>
         requires { length uses.now ≡ length names.now }
         ensures none { OnOk result (position (shows self) uses.now ≡ None) }
-        ensures first { IfErr result (λ fault. fault ≢ NetFault.NoMemory → IsFirst self names.now uses.now fault) }
+        ensures first { IfErr result
+            (λ fault. fault ≢ NetFault.NoMemory → IsFirst self names.now uses.now fault) }
     {
         for number in 0..names.len() {
             if self.is_in(&uses[number as usize]) {

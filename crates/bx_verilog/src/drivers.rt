@@ -2,20 +2,19 @@
 //! of the gates' arguments. It promises what the definition of a module's net says. That no name has
 //! two drivers and none lacks one is left to others: here the last gate counts, and a name that nothing
 //! drives is 0.
-ghost use Rattle.std.specs.Prelude.{◌≡◌, ◌+◌, ◌<◌, ◌++◌, [], ◌∷◌, List, length, map, flat_map, position, slice_set, false, if◌then◌else◌, IfOk, OnOk};
+ghost use Rattle.std.specs.Prelude.{◌≡◌, ◌+◌, ◌<◌, [], ◌∷◌, List, length, map, flat_map, position, slice_set, false, if◌then◌else◌, IfOk, OnOk};
 ghost use Rattle.std.specs.List.{list_any};
 ghost use Rattle.std.specs.Str.{bytes_eq};
 ghost use Rattle.bx_logic.specs.declared.driver.Driver.{Driver as NetDriver};
 ghost use Rattle.bx_logic.specs.declared.driver.Driver.TheVariants.{Input, Constant, Gate};
 ghost use Rattle.bx_logic.specs.Lists.{AreDistinct};
-ghost use Rattle.bx_syntax.specs.Trees.{tree};
 ghost use Rattle.bx_syntax.specs.Parts.{part as part_tree};
-ghost use Rattle.bx_verilog.specs.Formulas.{Text, formula};
+ghost use Rattle.bx_verilog.specs.Formulas.{Text};
 ghost use Rattle.bx_verilog.specs.Drives.{drives_of, drives as drives_in};
-ghost use Rattle.bx_verilog.specs.Mentions.{names as names_in, number, inputs as inputs_in};
-ghost use Rattle.bx_verilog.specs.Elaboration.{chosen, all_own, inner_size, name_count, driver_of, inner_drivers};
+ghost use Rattle.bx_verilog.specs.Mentions.{names as names_in, inputs as inputs_in};
+ghost use Rattle.bx_verilog.specs.Elaboration.{chosen, all_own, inner_size, name_count, net_of};
 ghost use Rattle.bx_verilog.specs.Shown.{number_among};
-ghost use Rattle.bx_verilog.specs.Lowering.{shown_drive, shown_drives, AreDriversToo, HaveArguments, part_drives, item_drives};
+ghost use Rattle.bx_verilog.specs.Lowering.{shown_drive, shown_drives, AreDriversToo, HaveArguments, NetsFit, formulas, part_drives, item_drives};
 
 use crate::expression::nets_of_expressions;
 use crate::names::Names;
@@ -37,7 +36,7 @@ pub(crate) fn drivers(
     requires some { HaveArguments (drives_in «module».now) }
     requires few { length inputs.now < 4294967296 }
     requires fits { name_count «module».now + inner_size (drives_in «module».now) < 4294967296 }
-    ensures { IfOk result (λ drivers. drivers.items ≡ map (driver_of «module».now) (names_in «module».now) ++ inner_drivers (number «module».now) (name_count «module».now) (drives_in «module».now)) }
+    ensures { IfOk result (λ drivers. drivers.items ≡ (net_of «module».now).drivers) }
 {
     let mut drivers = NetDrivers {
         named: input_drivers(alloc, names, inputs)?,
@@ -53,7 +52,8 @@ pub(crate) fn drivers(
 fn input_drivers(alloc: Global, names: &Names, inputs: &[Name]) -> Result<Vec<Driver>, NoMemory>
     requires distinct { AreDistinct names.now }
     requires few { length inputs.now < 4294967296 }
-    ensures { IfOk result (λ named. named.items ≡ map (λ n. chosen None (position (bytes_eq n) inputs.now)) names.now) }
+    ensures { IfOk result (λ named. named.items ≡
+        map (λ n. chosen None (position (bytes_eq n) inputs.now)) names.now) }
 {
     let mut named = constants(alloc, names)?;
     // From the last to the first: what is set later stays, and of two equal names the definition counts the
@@ -92,8 +92,10 @@ impl NetDrivers {
     ) -> Result<(), NoMemory>
         requires distinct { AreDistinct names.now }
         requires some { HaveArguments (flat_map item_drives items.now) }
-        requires fits { length names.now + length self.old.inner.items + inner_size (flat_map item_drives items.now) < 4294967296 }
-        ensures { OnOk result (AreDriversToo names.now (flat_map item_drives items.now) self.old self.new) }
+        requires fits { NetsFit names.now self.old.inner.items
+            (inner_size (flat_map item_drives items.now)) }
+        ensures { OnOk result
+            (AreDriversToo names.now (flat_map item_drives items.now) self.old self.new) }
     {
         for item in items {
             self.drive_parts(alloc, names, item)?;
@@ -105,8 +107,10 @@ impl NetDrivers {
     fn drive_parts(&mut self, alloc: Global, names: &Names, parts: &[Part]) -> Result<(), NoMemory>
         requires distinct { AreDistinct names.now }
         requires some { HaveArguments (flat_map part_drives parts.now) }
-        requires fits { length names.now + length self.old.inner.items + inner_size (flat_map part_drives parts.now) < 4294967296 }
-        ensures { OnOk result (AreDriversToo names.now (flat_map part_drives parts.now) self.old self.new) }
+        requires fits { NetsFit names.now self.old.inner.items
+            (inner_size (flat_map part_drives parts.now)) }
+        ensures { OnOk result
+            (AreDriversToo names.now (flat_map part_drives parts.now) self.old self.new) }
     {
         for part in parts {
             if let Some(drive) = drive_of(part) {
@@ -120,8 +124,10 @@ impl NetDrivers {
     fn drive(&mut self, alloc: Global, names: &Names, drive: Drive<'_>) -> Result<(), NoMemory>
         requires distinct { AreDistinct names.now }
         requires some { 0 < length drive.arguments.now }
-        requires fits { length names.now + length self.old.inner.items + all_own (map formula (map tree drive.arguments.now)) < 4294967296 }
-        ensures { OnOk result (AreDriversToo names.now (shown_drive drive.entry ∷ []) self.old self.new) }
+        requires fits { NetsFit names.now self.old.inner.items
+            (all_own (formulas drive.arguments.now)) }
+        ensures { OnOk result
+            (AreDriversToo names.now (shown_drive drive.entry ∷ []) self.old self.new) }
     {
         let nets = nets_of_expressions(alloc, names, &mut self.inner, drive.arguments)?;
         drive_all(
@@ -174,7 +180,8 @@ fn drive_all(
     requires distinct { AreDistinct names.now }
     requires some { 0 < length nets.now }
     ensures { OnOk result ((F : Text → NetDriver) → named.old.items ≡ map F names.now
-        → named.new.items ≡ map (λ n. if list_any (bytes_eq n) targets.now then Gate op nets.now else F n) names.now) }
+        → named.new.items ≡ map
+        (λ n. if list_any (bytes_eq n) targets.now then Gate op nets.now else F n) names.now) }
 {
     for target in targets {
         let arguments = Args::new(nets.to_vec(alloc)?);

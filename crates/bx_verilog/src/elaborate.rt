@@ -1,11 +1,10 @@
 //! From a parsed module to its net. It promises the net of a module in which nothing is wrong, and the
 //! first fault of any other, unless memory runs out. Reading the text is left to `bx_syntax`, and what a
 //! net computes to `bx_logic`.
-ghost use Rattle.std.specs.Prelude.{◌≡◌, ◌≢◌, Result, Ok, Err, map, IfOk, IfErr};
-ghost use Rattle.bx_logic.specs.Nets.{Netlist, IsAcyclic};
+ghost use Rattle.std.specs.Prelude.{◌≡◌, ◌≢◌, Ok, Err, map, IfOk, IfErr};
+ghost use Rattle.bx_logic.specs.Nets.{IsAcyclic};
 ghost use Rattle.bx_syntax.specs.Texts.{IsTree};
-ghost use Rattle.bx_verilog.specs.declared.fault.NetFault.{NetFault as Fault};
-ghost use Rattle.bx_verilog.specs.Elaboration.{Elaborates, net_of};
+ghost use Rattle.bx_verilog.specs.Elaboration.{Meaning, Elaborates, IsTold, net_of};
 ghost use Rattle.bx_verilog.specs.Faults.{IsDriven};
 ghost use Rattle.bx_verilog.specs.Mentions.{firsts, inputs as inputs_in, mentions as mentions_of, names as names_in};
 ghost use Rattle.bx_verilog.specs.Shown.{shown};
@@ -32,9 +31,10 @@ pub fn to_net(alloc: Global, module: &Module) -> Result<Net, NetFault>
     // What is answered is the net of a module in which nothing is wrong.
     ensures found { IfOk result (λ net. Elaborates «module».now (Ok net)) }
     // The fault that is answered is the first of the module.
-    ensures faults { IfErr result (λ fault. fault ≢ NetFault.NoMemory → Elaborates «module».now (Err fault)) }
+    ensures faults { IfErr result (IsTold «module».now) }
     // What the module gives is answered, unless memory runs out.
-    ensures exact { (r : Result Netlist Fault) → Elaborates «module».now r → result ≢ Err NetFault.NoMemory → result ≡ r }
+    ensures exact { (r : Meaning) → Elaborates «module».now r →
+        result ≢ Err NetFault.NoMemory → result ≡ r }
 {
     let mentions = mentions(alloc, module)?;
     let names = Names::of(alloc, &mentions)?;
@@ -52,7 +52,7 @@ fn net_of_names(
     requires mentions { map shown mentions.now ≡ mentions_of «module».now }
     requires names { names.now ≡ firsts (map (λ x. x.name.now) mentions.now) }
     ensures found { IfOk result (λ net. Elaborates «module».now (Ok net)) }
-    ensures faults { IfErr result (λ fault. fault ≢ NetFault.NoMemory → Elaborates «module».now (Err fault)) }
+    ensures faults { IfErr result (IsTold «module».now) }
 {
     let uses = uses_of(alloc, names, mentions)?;
     check(alloc, names, &uses)?;
@@ -70,7 +70,7 @@ fn checked_net(
     requires uses { AreUses «module».now names.now uses.now }
     requires driven { IsDriven «module».now }
     ensures found { IfOk result (λ net. Elaborates «module».now (Ok net)) }
-    ensures faults { IfErr result (λ fault. fault ≢ NetFault.NoMemory → Elaborates «module».now (Err fault)) }
+    ensures faults { IfErr result (IsTold «module».now) }
 {
     let inputs = inputs(alloc, names, uses, module)?;
     let drivers = acyclic_drivers(alloc, names, &inputs, module)?;
@@ -90,7 +90,7 @@ fn acyclic_drivers(
     requires inputs { inputs.now ≡ inputs_in «module».now }
     ensures drivers { IfOk result (λ drivers. drivers.items ≡ (net_of «module».now).drivers) }
     ensures acyclic { IfOk result (λ drivers. IsAcyclic drivers.items) }
-    ensures faults { IfErr result (λ fault. fault ≢ NetFault.NoMemory → Elaborates «module».now (Err fault)) }
+    ensures faults { IfErr result (IsTold «module».now) }
 {
     let drivers = drivers(alloc, names, inputs, module)?;
     if let Some(net) = least_net_on_cycle(alloc, &drivers)? {

@@ -1,12 +1,12 @@
 //! The nets of expressions: those that an expression has besides the ones of its names stand behind
 //! them, operands before what joins them. Which names there are, and what the expressions are for, is
 //! left to others.
-ghost use Rattle.std.specs.Prelude.{◌≡◌, ◌+◌, ◌<◌, ◌++◌, [], ◌∷◌, length, map, IfOk, OnOk};
+ghost use Rattle.std.specs.Prelude.{◌≡◌, ◌+◌, ◌<◌, ◌++◌, [], ◌∷◌, length, IfOk, OnOk};
 ghost use Rattle.bx_logic.specs.declared.driver.Driver.TheVariants.{Gate};
 ghost use Rattle.bx_syntax.specs.Trees.{tree};
 ghost use Rattle.bx_verilog.specs.Formulas.{formula, operation as operation_of};
 ghost use Rattle.bx_verilog.specs.Elaboration.{own, all_own};
-ghost use Rattle.bx_verilog.specs.Lowering.{IsLowered, AreLowered};
+ghost use Rattle.bx_verilog.specs.Lowering.{IsLowered, AreLowered, NetsFit, formulas};
 
 use crate::names::Names;
 use bx_logic::{Args, Driver, NoMemory, Op};
@@ -21,8 +21,9 @@ pub(crate) fn nets_of_expressions(
     inner: &mut Vec<Driver>,
     exprs: &[Expr],
 ) -> Result<Vec<u32>, NoMemory>
-    requires { length names.now + length inner.old.items + all_own (map formula (map tree exprs.now)) < 4294967296 }
-    ensures { IfOk result (λ nets. AreLowered names.now inner.old.items inner.new.items (map formula (map tree exprs.now)) nets.items) }
+    requires { NetsFit names.now inner.old.items (all_own (formulas exprs.now)) }
+    ensures { IfOk result
+        (λ ns. AreLowered names.now inner.old.items inner.new.items (formulas exprs.now) ns.items) }
 {
     let mut nets = Vec::new(alloc);
     for expr in exprs {
@@ -38,8 +39,9 @@ pub(crate) fn net_of_expression(
     inner: &mut Vec<Driver>,
     expr: &Expr,
 ) -> Result<u32, NoMemory>
-    requires { length names.now + length inner.old.items + own (formula (tree expr.now)) < 4294967296 }
-    ensures { IfOk result (λ net. IsLowered names.now inner.old.items inner.new.items (formula (tree expr.now)) net) }
+    requires { NetsFit names.now inner.old.items (own (formula (tree expr.now))) }
+    ensures { IfOk result
+        (λ net. IsLowered names.now inner.old.items inner.new.items (formula (tree expr.now)) net) }
 {
     match expr {
         Expr::Net(name) => Ok(names.number(name.as_slice())),
@@ -79,7 +81,8 @@ fn push_gate(
 ) -> Result<u32, NoMemory>
     requires some { 0 < length arguments.now }
     requires fits { length names.now + length inner.old.items < 4294967296 }
-    ensures drivers { OnOk result (inner.new.items ≡ inner.old.items ++ (Gate op arguments.now ∷ [])) }
+    ensures drivers { OnOk result
+        (inner.new.items ≡ inner.old.items ++ (Gate op arguments.now ∷ [])) }
     ensures number { IfOk result (λ net. net ≡ length names.now + length inner.old.items) }
 {
     let arguments = Args::new(arguments.to_vec(alloc)?);
@@ -89,7 +92,8 @@ fn push_gate(
 // Puts a driver behind the others, and answers the number of its net.
 fn push(names: &Names, inner: &mut Vec<Driver>, driver: Driver) -> Result<u32, NoMemory>
     requires { length names.now + length inner.old.items < 4294967296 }
-    ensures drivers { OnOk result (inner.new.items ≡ inner.old.items ++ (driver ∷ [])) }
+    ensures drivers { OnOk result
+        (inner.new.items ≡ inner.old.items ++ (driver ∷ [])) }
     ensures number { IfOk result (λ net. net ≡ length names.now + length inner.old.items) }
 {
     let number = names.len() + inner.len() as u32;

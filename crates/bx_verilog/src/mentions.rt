@@ -1,12 +1,12 @@
 //! The names of a module where they stand behind its own, each with what it stands for. It promises all
 //! of them in the order of the text; what follows from them is left to others.
-ghost use Rattle.std.specs.Prelude.{◌≡◌, ◌∷◌, [], ◌++◌, map, flat_map, IfOk, OnOk};
+ghost use Rattle.std.specs.Prelude.{◌≡◌, ◌∷◌, [], map, flat_map, IfOk, OnOk};
 ghost use Rattle.bx_syntax.specs.Trees.{tree};
 ghost use Rattle.bx_syntax.specs.Parts.{part, parts};
 ghost use Rattle.bx_syntax.specs.Texts.{IsTree};
 ghost use Rattle.bx_verilog.specs.Formulas.{formula};
 ghost use Rattle.bx_verilog.specs.Mentions.{all_as, port_mentions, reads_mentions, part_mentions, mentions as mentions_of};
-ghost use Rattle.bx_verilog.specs.Shown.{shown};
+ghost use Rattle.bx_verilog.specs.Shown.{shown, AreAdded};
 
 use crate::role::Role;
 use bx_logic::{Name, NoMemory};
@@ -35,7 +35,8 @@ pub(crate) fn mentions(alloc: Global, parsed: &Module) -> Result<Vec<Mention<'_>
 
 // The names of the header.
 fn push_ports<'a>(ports: &'a [Port], found: &mut Vec<Mention<'a>>) -> Result<(), NoMemory>
-    ensures { OnOk result (map shown found.new.items ≡ map shown found.old.items ++ flat_map port_mentions ports.now) }
+    ensures { OnOk result
+        (AreAdded found.old.items found.new.items (flat_map port_mentions ports.now)) }
 {
     for port in ports {
         push_port(port, found)?;
@@ -45,7 +46,7 @@ fn push_ports<'a>(ports: &'a [Port], found: &mut Vec<Mention<'a>>) -> Result<(),
 
 // The name of a port of the header, which stands for its direction too where it has one.
 fn push_port<'a>(port: &'a Port, found: &mut Vec<Mention<'a>>) -> Result<(), NoMemory>
-    ensures { OnOk result (map shown found.new.items ≡ map shown found.old.items ++ port_mentions port.now) }
+    ensures { OnOk result (AreAdded found.old.items found.new.items (port_mentions port.now)) }
 {
     push_name(&port.name, Role::Header, found)?;
     if let Some(direction) = port.direction {
@@ -56,7 +57,9 @@ fn push_port<'a>(port: &'a Port, found: &mut Vec<Mention<'a>>) -> Result<(), NoM
 
 // The names of items.
 fn push_items<'a>(items: &'a [Vec<Part>], found: &mut Vec<Mention<'a>>) -> Result<(), NoMemory>
-    ensures { OnOk result (map shown found.new.items ≡ map shown found.old.items ++ flat_map part_mentions (flat_map (λ item. item) (map parts items.now))) }
+    ensures { OnOk result
+        (AreAdded found.old.items found.new.items
+        (flat_map part_mentions (flat_map (λ item. item) (map parts items.now)))) }
 {
     for item in items {
         push_item(item, found)?;
@@ -66,7 +69,8 @@ fn push_items<'a>(items: &'a [Vec<Part>], found: &mut Vec<Mention<'a>>) -> Resul
 
 // The names of an item.
 fn push_item<'a>(item: &'a [Part], found: &mut Vec<Mention<'a>>) -> Result<(), NoMemory>
-    ensures { OnOk result (map shown found.new.items ≡ map shown found.old.items ++ flat_map part_mentions (map part item.now)) }
+    ensures { OnOk result
+        (AreAdded found.old.items found.new.items (flat_map part_mentions (map part item.now))) }
 {
     for part in item {
         push_part(part, found)?;
@@ -76,7 +80,8 @@ fn push_item<'a>(item: &'a [Part], found: &mut Vec<Mention<'a>>) -> Result<(), N
 
 // The names of a part.
 fn push_part<'a>(item: &'a Part, found: &mut Vec<Mention<'a>>) -> Result<(), NoMemory>
-    ensures { OnOk result (map shown found.new.items ≡ map shown found.old.items ++ part_mentions (part item.now)) }
+    ensures { OnOk result
+        (AreAdded found.old.items found.new.items (part_mentions (part item.now))) }
 {
     match item {
         Part::Declaration(direction, name) => push_name(name, Role::Directed(*direction), found),
@@ -99,7 +104,9 @@ fn push_driven<'a>(
     expr: &'a Expr,
     found: &mut Vec<Mention<'a>>,
 ) -> Result<(), NoMemory>
-    ensures { OnOk result (map shown found.new.items ≡ map shown found.old.items ++ (name.now, Role.Driven) ∷ reads_mentions (formula (tree expr.now))) }
+    ensures { OnOk result
+        (AreAdded found.old.items found.new.items
+        ((name.now, Role.Driven) ∷ reads_mentions (formula (tree expr.now)))) }
 {
     push_name(name, Role::Driven, found)?;
     push_reads(expr, found)
@@ -107,7 +114,8 @@ fn push_driven<'a>(
 
 // The names that a `buf` or a `not` drives.
 fn push_outputs<'a>(outputs: &'a [Name], found: &mut Vec<Mention<'a>>) -> Result<(), NoMemory>
-    ensures { OnOk result (map shown found.new.items ≡ map shown found.old.items ++ all_as Role.Driven outputs.now) }
+    ensures { OnOk result
+        (AreAdded found.old.items found.new.items (all_as Role.Driven outputs.now)) }
 {
     for output in outputs {
         push_name(output, Role::Driven, found)?;
@@ -117,7 +125,9 @@ fn push_outputs<'a>(outputs: &'a [Name], found: &mut Vec<Mention<'a>>) -> Result
 
 // The names that the arguments of a gate read.
 fn push_arguments<'a>(arguments: &'a [Expr], found: &mut Vec<Mention<'a>>) -> Result<(), NoMemory>
-    ensures { OnOk result (map shown found.new.items ≡ map shown found.old.items ++ flat_map (λ e. reads_mentions (formula e)) (map tree arguments.now)) }
+    ensures { OnOk result
+        (AreAdded found.old.items found.new.items
+        (flat_map (λ e. reads_mentions (formula e)) (map tree arguments.now))) }
 {
     for argument in arguments {
         push_reads(argument, found)?;
@@ -128,7 +138,8 @@ fn push_arguments<'a>(arguments: &'a [Expr], found: &mut Vec<Mention<'a>>) -> Re
 // The names that an expression reads.
 #[cycle(reads)]
 fn push_reads<'a>(expr: &'a Expr, found: &mut Vec<Mention<'a>>) -> Result<(), NoMemory>
-    ensures { OnOk result (map shown found.new.items ≡ map shown found.old.items ++ reads_mentions (formula (tree expr.now))) }
+    ensures { OnOk result
+        (AreAdded found.old.items found.new.items (reads_mentions (formula (tree expr.now)))) }
 {
     match expr {
         Expr::Net(name) => push_name(name, Role::Read, found),
@@ -148,7 +159,9 @@ fn push_operands<'a>(
     operands: &'a Vec<Operand>,
     found: &mut Vec<Mention<'a>>,
 ) -> Result<(), NoMemory>
-    ensures { OnOk result (map shown found.new.items ≡ map shown found.old.items ++ flat_map (λ operand. reads_mentions (formula (tree operand.expr))) operands.now.items) }
+    ensures { OnOk result
+        (AreAdded found.old.items found.new.items
+        (flat_map (λ o. reads_mentions (formula (tree o.expr))) operands.now.items)) }
 {
     for operand in operands {
         push_reads(&operand.expr, found)?;
@@ -158,7 +171,7 @@ fn push_operands<'a>(
 
 // Puts a name behind those that were found before.
 fn push_name<'a>(name: &'a Name, role: Role, found: &mut Vec<Mention<'a>>) -> Result<(), NoMemory>
-    ensures { OnOk result (map shown found.new.items ≡ map shown found.old.items ++ (name.now, role) ∷ []) }
+    ensures { OnOk result (AreAdded found.old.items found.new.items ((name.now, role) ∷ [])) }
 {
     let name = name.as_slice();
     found.push(Mention { name, role })?;

@@ -30,7 +30,8 @@ impl<'a> Model for Names<'a> {
 
     ghost view = { λ names. map (λ place. slice_index_or names.sorted place []) names.places.keys };
 
-    ghost invariant = { λ names. (length names.places.keys < 4294967296) × All (λ place. place < length names.sorted) names.places.keys };
+    ghost invariant = { λ names. (length names.places.keys < 4294967296)
+        × All (λ place. place < length names.sorted) names.places.keys };
 }
 
 impl<'a> Names<'a> {

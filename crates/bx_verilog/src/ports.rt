@@ -39,7 +39,8 @@ pub(crate) fn outputs(
     module: &Module,
 ) -> Result<Vec<(Name, u32)>, NoMemory>
     requires { AreUses «module».now names.now uses.now }
-    ensures { IfOk result (λ outputs. outputs.items ≡ map (λ n. (n, number «module».now n)) (outputs_of «module».now)) }
+    ensures { IfOk result (λ outputs. outputs.items ≡
+        map (λ n. (n, number «module».now n)) (outputs_of «module».now)) }
 {
     let mut outputs = Vec::new(alloc);
     for port in module.ports() {

@@ -25,13 +25,15 @@ impl<'a> Model for SortedNames<'a> {
 
     ghost view = { λ sorted. map (λ name. name.now) sorted.names.items };
 
-    ghost invariant = { λ sorted. IsStrictlySortedBy (λ x y. slice_cmp nat_cmp x.now y.now) sorted.names.items };
+    ghost invariant = { λ sorted.
+        IsStrictlySortedBy (λ x y. slice_cmp nat_cmp x.now y.now) sorted.names.items };
 }
 
 impl<'a> SortedNames<'a> {
     /// The names of these mentions.
     pub fn of(alloc: Global, mentions: &[Mention<'a>]) -> Result<Self, NoMemory>
-        ensures { IfOk result (λ sorted. (n : Text) → Contains (map (λ x. x.name.now) mentions.now) n → Contains sorted n) }
+        ensures { IfOk result (λ sorted. (n : Text) →
+            Contains (map (λ x. x.name.now) mentions.now) n → Contains sorted n) }
     {
         let mut names = Vec::with_capacity(alloc, mentions.len())?;
         for mention in mentions {

@@ -3,7 +3,7 @@
 ghost use Rattle.std.specs.Prelude.{◌≡◌, map, IfOk};
 ghost use Rattle.bx_verilog.specs.Mentions.{firsts};
 ghost use Rattle.bx_verilog.specs.Shown.{shown};
-ghost use Rattle.bx_verilog.specs.Uses.{HasRoom, noted, uses_among};
+ghost use Rattle.bx_verilog.specs.Uses.{HasRoom, uses_and, uses_among};
 
 use crate::mentions::Mention;
 use crate::names::Names;
@@ -30,7 +30,8 @@ pub(crate) fn uses_of(
     mentions: &[Mention],
 ) -> Result<Vec<Uses>, NoMemory>
     requires { names.now ≡ firsts (map (λ x. x.name.now) mentions.now) }
-    ensures { IfOk result (λ uses. uses.items ≡ map (uses_among (map shown mentions.now)) names.now) }
+    ensures { IfOk result (λ uses. uses.items ≡
+        map (uses_among (map shown mentions.now)) names.now) }
 {
     let mut uses = vec![in alloc; Uses::NONE; names.len() as usize]?;
     for mention in mentions {
@@ -53,7 +54,7 @@ impl Uses {
     // Counts one use more.
     fn note(&mut self, role: Role)
         requires { HasRoom self.old }
-        ensures { self.new ≡ noted role self.old }
+        ensures { self.new ≡ uses_and role self.old }
     {
         match role {
             Role::Header => self.header += 1,

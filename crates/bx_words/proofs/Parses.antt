@@ -35,7 +35,7 @@ ours Design = refl
 pub apart : (verb : Verb) → distinct_rules (rules_of (line_of verb)) ≡ true
 apart Design = refl
 
-pub simple : (verb : Verb) → is_simple_and_free (app_of_line (line_of verb)) ≡ true
+simple : (verb : Verb) → is_simple_and_free (app_of_line (line_of verb)) ≡ true
 unfolding clap_on_literals
 simple Design = refl
 
@@ -73,6 +73,9 @@ built_app line c b own =
   where
     app_with : List Rule → App
     app_with rules = with_rules (app_of_line (record line { files = []; options = [] })) rules
+
+pub plain_app : (verb : Verb) (c : Command) → IsBuilt (line_of verb) c → is_simple_and_free (app_of c) ≡ true
+plain_app verb c b = ap is_simple_and_free (built_app (line_of verb) c b (ours verb)) ∙ simple verb
 
 -- ---- the files
 

@@ -23,7 +23,8 @@ pub(crate) fn read_design<'w>(matches: &ArgMatches<'w>) -> Result<DesignCommand<
     requires numbers { AreTaken (given_in (rows_in matches.now)) }
     ensures sound { OnOk result (own_fault Verb.Design (rows_in matches.now) ≡ None) }
     ensures design { IfOk result (IsDesign (rows_in matches.now)) }
-    ensures fault { IfErr result (λ fault. own_fault Verb.Design (rows_in matches.now) ≡ Some fault) }
+    ensures fault { IfErr result
+        (λ fault. own_fault Verb.Design (rows_in matches.now) ≡ Some fault) }
 {
     let net = named(matches, File::Net).unwrap();
     let cert = named(matches, File::Cert).unwrap();

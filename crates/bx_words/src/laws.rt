@@ -6,5 +6,6 @@ ghost use Rattle.bx_words.specs.Causes.{IsCause};
 
 /// Each fault is the first one exactly where its cause stands.
 pub fn a_fault_comes_exactly_with_its_cause()
-    ensures { (words : List (List ℕ)) (fault : WordFault) → first_fault words ≡ Some fault ↔ IsCause words fault }
+    ensures { (words : List (List ℕ)) (fault : WordFault) →
+        first_fault words ≡ Some fault ↔ IsCause words fault }
 {}

@@ -35,7 +35,8 @@ pub(crate) fn find_matches<'w>(
 // What an error of `clap` says of the words.
 fn refusal(error: &Error) -> NoCommand
     ensures memory { kind_of error.now ≡ OutOfMemory → result ≡ NoCommand.NoMemory }
-    ensures other { (kind_of error.now ≡ OutOfMemory → ⊥) → result ≡ NoCommand.Fault WordFault.Usage }
+    ensures other { (kind_of error.now ≡ OutOfMemory → ⊥) →
+        result ≡ NoCommand.Fault WordFault.Usage }
     ensures either { (result ≡ NoCommand.NoMemory) ⊎ (result ≡ NoCommand.Fault WordFault.Usage) }
 {
     match error.kind() {

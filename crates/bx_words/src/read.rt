@@ -22,12 +22,14 @@ pub fn read_words<'w>(alloc: Global, words: &'w [String]) -> Result<Command<'w>,
     ensures command { IfOk result (IsCommand (texts words.now)) }
 
     // A fault is the first one of the words.
-    ensures fault { (fault : Wrong) → result ≡ Err (NoCommand.Fault fault) → first_fault (texts words.now) ≡ Some fault }
+    ensures fault { (fault : Wrong) → result ≡ Err (NoCommand.Fault fault) →
+        first_fault (texts words.now) ≡ Some fault }
 
     // Where memory isn't refused, words with no fault give a command, and others give their first fault.
-    ensures taken { first_fault (texts words.now) ≡ None → result ≢ Err NoCommand.NoMemory → IsOk result }
-    ensures refused { (fault : Wrong) → first_fault (texts words.now) ≡ Some fault → result ≢ Err NoCommand.NoMemory
-        → result ≡ Err (NoCommand.Fault fault) }
+    ensures taken { first_fault (texts words.now) ≡ None →
+        result ≢ Err NoCommand.NoMemory → IsOk result }
+    ensures refused { (fault : Wrong) → first_fault (texts words.now) ≡ Some fault →
+        result ≢ Err NoCommand.NoMemory → result ≡ Err (NoCommand.Fault fault) }
 {
     answer(alloc, words)
 }

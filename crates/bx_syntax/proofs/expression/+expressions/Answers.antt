@@ -1,6 +1,6 @@
 use Rattle.std.proofs.Common.{◌≡◌, ◌∷◌, length, rules, sym, ap, ◌∙◌, arith}
 use Rattle.std.proofs.lemmas.Result.{err_from_is_err_and}
-use Rattle.bx_syntax.specs.declared.terminal.Terminal.TheVariants.{Mark}
+use Rattle.bx_syntax.specs.declared.terminal.Terminal.TheVariants.{Fixed}
 use Rattle.bx_syntax.specs.declared.stop.Wanted.TheVariants.{Primary}
 use Rattle.bx_syntax.specs.Trees.{tree}
 use Rattle.bx_syntax.specs.ReadsExpressions.{primary_at}
@@ -16,15 +16,15 @@ level-returns-in-Some t c = gives_same tree _ c.chain.result _ _ (level_some _ _
 pub nested-returns-in-Tilde : goal.nested-returns-in-Tilde
 nested-returns-in-Tilde t c =
     gives_same tree _ c.inverse.result _ _
-    (sym (ap (λ m. primary_at c.args.depth (Mark m ∷ c.args.terminals.now.items)) c.in-Tilde.is ∙ primary_tilde _ _)) c.inverse.ensures
+    (sym (ap (λ m. primary_at c.args.depth (Fixed m ∷ c.args.terminals.now.items)) c.in-Tilde.is ∙ primary_tilde _ _)) c.inverse.ensures
 
 pub nested-returns-in-Open : goal.nested-returns-in-Open
 nested-returns-in-Open t c =
     gives_same tree _ c.group.result _ _
-    (sym (ap (λ m. primary_at c.args.depth (Mark m ∷ c.args.terminals.now.items)) c.in-Open.is ∙ primary_open _ _)) c.group.ensures
+    (sym (ap (λ m. primary_at c.args.depth (Fixed m ∷ c.args.terminals.now.items)) c.in-Open.is ∙ primary_open _ _)) c.group.ensures
 
 pub nested-returns-in_default : goal.nested-returns-in_default
-nested-returns-in_default t c = stopped_here Primary (Mark c.args.mark ∷ c.args.terminals.now.items) c.args.left _ c.requires (primary_mark _ _ _ c.in_default.not-Tilde c.in_default.not-Open)
+nested-returns-in_default t c = stopped_here Primary (Fixed c.args.mark ∷ c.args.terminals.now.items) c.args.left _ c.requires (primary_mark _ _ _ c.in_default.not-Tilde c.in_default.not-Open)
 
 pub primary-returns-in_default : goal.primary-returns-in_default
 primary-returns-in_default t c =
@@ -41,8 +41,8 @@ primary_from-returns-in-Name t c = rw c.in-Name.is (primary_name _ _ _)
 pub primary_from-returns-in-Bit : goal.primary_from-returns-in-Bit
 primary_from-returns-in-Bit t c = rw c.in-Bit.is (primary_bit _ _ _)
 
-pub primary_from-returns-in-Gate : goal.primary_from-returns-in-Gate
-primary_from-returns-in-Gate t c = stopped_here Primary (c.args.front ∷ c.args.terminals.now.items) c.args.left _ c.requires (primary_neither _ _ _ c.in-Gate.is)
+pub primary_from-returns-in-GateWord : goal.primary_from-returns-in-GateWord
+primary_from-returns-in-GateWord t c = stopped_here Primary (c.args.front ∷ c.args.terminals.now.items) c.args.left _ c.requires (primary_neither _ _ _ c.in-GateWord.is)
 
 pub operands-returns-in_err-expr : goal.operands-returns-in_err-expr
 operands-returns-in_err-expr t c =
@@ -78,5 +78,5 @@ chain-returns-in_err-more t c =
 
 pub chain-returns : goal.chain-returns
 chain-returns t c =
-    gives_tree c.joined.result _ _ _ c.joined.ensures.found c.joined.ensures.failed
+    gives_tree c.join.result _ _ _ c.join.ensures.found c.join.ensures.failed
     (joined_all _ _ _ _ c.in-Some.operator _ _ _ _ _ _ (shrinks c.args.depth c.args.below) c.in_ok-first.ensures (sym c.operator_at.ensures ∙ c.in-Some.is) c.take.ensures.rest c.in_ok-second.ensures c.in_ok-more.ensures)

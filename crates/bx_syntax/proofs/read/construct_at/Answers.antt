@@ -1,5 +1,4 @@
-use Rattle.std.proofs.Common.{sym, ap, ◌∙◌}
-use Rattle.bx_syntax.specs.Constructs.{construct_of}
+use Rattle.std.proofs.Common.{sym, ◌∙◌}
 use Rattle.bx_syntax.proofs.Faults.{construct_none, construct_some}
 use Rattle.bx_syntax.proofs.read.construct_at.Goals as goal
 
@@ -7,6 +6,4 @@ pub returns-in_default : goal.returns-in_default
 returns-in_default c = λ k e. construct_none c.args.text.now c.args.tokens.now c.args.wanted k (sym c.in_default.is ∙ c.token_at.ensures.token k e)
 
 pub returns : goal.returns
-returns c = λ k e.
-    construct_some c.args.text.now c.args.tokens.now c.args.wanted k c.in-Some.token _ (sym c.in-Some.is ∙ c.token_at.ensures.token k e)
-    (c.construct.ensures ∙ ap (construct_of c.args.wanted) c.in_ok-terminal.ensures.found)
+returns c = λ k e. construct_some c.args.text.now c.args.tokens.now c.args.wanted k c.in-Some.token _ (sym c.in-Some.is ∙ c.token_at.ensures.token k e) c.construct.ensures

@@ -4,11 +4,11 @@ use Rattle.bx_syntax.specs.Faults.{HasReadFault}
 use Rattle.bx_syntax.proofs.Faults.{bad_fault, deep_fault}
 use Rattle.bx_syntax.proofs.read.fault_of.Goals as goal
 
-pub returns-in-Ok-clause-fault : goal.returns-in-Ok-clause-fault
-returns-in-Ok-clause-fault c = λ _.
+pub returns-in-Bad-clause-fault : goal.returns-in-Bad-clause-fault
+returns-in-Bad-clause-fault c = λ _.
     let is = c.in-Bad.is in
     subst (λ (f : ReadFault). HasReadFault c.args.text.now c.args.tokens.now f) (sym c.fault_with.ensures)
-    (bad_fault c.args.text.now c.args.tokens.now c.in-Bad.left c.in-Bad.wanted c.place.result c.in-Ok.construct (c.requires.stops (λ none. cc) ∙ ap Err is) c.place.ensures c.in-Ok.ensures)
+    (bad_fault c.args.text.now c.args.tokens.now c.in-Bad.left c.in-Bad.wanted c.place.result c.construct_at.result (c.requires.stops (λ none. cc) ∙ ap Err is) c.place.ensures c.construct_at.ensures)
 
 pub returns-in-Deep-clause-fault : goal.returns-in-Deep-clause-fault
 returns-in-Deep-clause-fault c = λ _.

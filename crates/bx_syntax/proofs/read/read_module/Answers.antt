@@ -22,7 +22,10 @@ pub returns-in-Err-clause-only : goal.returns-in-Err-clause-only
 returns-in-Err-clause-only c m is = c.fault_of.ensures.memory (c.in-Err.ensures.only m is)
 
 pub returns-in-Err-clause-exact : goal.returns-in-Err-clause-exact
-returns-in-Err-clause-exact c = λ f is given. answered c.args.text.now c.args.tokens.now (Err c.fault_of.result) (λ m. m) tt c.fault_of.ensures.fault f is given
+returns-in-Err-clause-exact c = λ f is given. answered c.args.text.now c.args.tokens.now (Err c.fault_of.result) (λ m. m) tt (λ other. c.fault_of.ensures.fault (λ none. other (c.fault_of.ensures.memory none))) f is given
 
 pub returns-in-Ok-clause-exact : goal.returns-in-Ok-clause-exact
 returns-in-Ok-clause-exact c = λ f is given. answered c.args.text.now c.args.tokens.now (Ok c.in-Ok.module) (λ m. m) c.in-Ok.ensures.found tt f is given
+
+pub returns-in-Err-clause-faults : goal.returns-in-Err-clause-faults
+returns-in-Err-clause-faults c = λ other. c.fault_of.ensures.fault (λ none. other (c.fault_of.ensures.memory none))

@@ -1,12 +1,11 @@
-use Rattle.std.proofs.Common.{◌≡◌, ap, ◌∙◌, refl, sym, subst, inl, inr, true}
+use Rattle.std.proofs.Common.{refl, sym, subst, inl, inr}
 use Rattle.clap.specs.Simple.{app_of}
 use Rattle.clap.specs.Values.{kind_of}
-use Rattle.clap.specs.Faults.{is_simple_and_free}
 use Rattle.bx_words.specs.declared.faults.NoCommand.{NoCommand}
 use Rattle.bx_words.specs.Verbs.{line_of, texts}
 use Rattle.bx_words.specs.Clap.{has_matches}
 use Rattle.bx_words.specs.Refusals.{IsRefusal}
-use Rattle.bx_words.proofs.Parses.{apart, built_app, files_named, ours, refused, rows_found, simple, taken}
+use Rattle.bx_words.proofs.Parses.{apart, built_app, files_named, ours, plain_app, refused, rows_found, taken}
 use Rattle.bx_words.proofs.parse.find_matches.Goals as goal
 
 pub returns-in-Ok-clause-found : goal.returns-in-Ok-clause-found
@@ -15,9 +14,8 @@ returns-in-Ok-clause-found c =
     let words = texts c.args.words.now in
     let command = c.in_ok-command.command in
     let app = built_app (line_of verb) command c.in_ok-command.ensures (ours verb) in
-    let plain : is_simple_and_free (app_of command) ≡ true = ap is_simple_and_free app ∙ simple verb in
     record {
-      taken = taken verb words (app_of command) app (c.in-Ok.ensures.kinds plain);
+      taken = taken verb words (app_of command) app (c.in-Ok.ensures.kinds (plain_app verb command c.in_ok-command.ensures));
       rows_are = rows_found verb words (app_of command) c.in-Ok.matches app c.in-Ok.ensures.matches;
       named = files_named (line_of verb) command c.in-Ok.matches c.in_ok-command.ensures c.in-Ok.ensures.parsed (ours verb) (apart verb);
     }
@@ -28,9 +26,8 @@ returns-in-Err-clause-none c =
     let words = texts c.args.words.now in
     let command = c.in_ok-command.command in
     let app = built_app (line_of verb) command c.in_ok-command.ensures (ours verb) in
-    let plain : is_simple_and_free (app_of command) ≡ true = ap is_simple_and_free app ∙ simple verb in
     let right = λ (none : NoCommand). IsRefusal (has_matches verb words) none in
-    elim (c.in-Err.ensures.kinds plain) [
+    elim (c.in-Err.ensures.kinds (plain_app verb command c.in_ok-command.ensures)) [
       | inl memory ↦ subst right (sym (c.refusal.ensures.memory memory)) tt
       | inr among ↦ elim c.refusal.ensures.either [
         | inl none ↦ subst right (sym none) tt

@@ -5,25 +5,25 @@ use Rattle.bx_logic.specs.declared.op.Op.TheVariants.{Not}
 use Rattle.bx_syntax.specs.declared.part.Kind.TheVariants.{Wire as WireKind, Gate as GateKind}
 use Rattle.bx_syntax.specs.declared.terminal.Mark.TheVariants.{Module, EndModule, Input, Output, Wire, Open, Close, Comma, Semicolon, Tilde, Ampersand}
 use Rattle.bx_syntax.specs.declared.terminal.Terminal.{Terminal}
-use Rattle.bx_syntax.specs.declared.terminal.Terminal.TheVariants.{Mark, Name, Gate}
+use Rattle.bx_syntax.specs.declared.terminal.Terminal.TheVariants.{Fixed, Name, GateWord}
 use Rattle.bx_syntax.specs.declared.tree.Direction.TheVariants.{Input as InputPort, Output as OutputPort}
 use Rattle.bx_syntax.specs.Grammar.{IsModule}
-use Rattle.bx_verilog.specs.Examples.{accepted, cycle_of_wire}
+use Rattle.bx_verilog.specs.Examples.{two_nots, cycle_of_wire}
 use Rattle.bx_verilog.proofs.Existence.{meaning}
 use Rattle.bx_verilog.proofs.laws.existence.numbers_follow_the_text.Goals as goal
 
 abbrev terminals : List Terminal
 terminals =
-    Mark Module ∷ Name (codes "m") ∷ Mark Open
-    ∷ Mark Input ∷ Name (codes "a") ∷ Mark Comma ∷ Mark Input ∷ Name (codes "b") ∷ Mark Comma ∷ Mark Output ∷ Name (codes "y")
-    ∷ Mark Close ∷ Mark Semicolon
-    ∷ Mark Wire ∷ Name (codes "w") ∷ Mark Semicolon
-    ∷ Gate Not ∷ Mark Open ∷ Name (codes "p") ∷ Mark Comma ∷ Name (codes "y") ∷ Mark Comma
-    ∷ Name (codes "a") ∷ Mark Ampersand ∷ Mark Tilde ∷ Name (codes "b")
-    ∷ Mark Close ∷ Mark Semicolon ∷ Mark EndModule ∷ []
+    Fixed Module ∷ Name (codes "m") ∷ Fixed Open
+    ∷ Fixed Input ∷ Name (codes "a") ∷ Fixed Comma ∷ Fixed Input ∷ Name (codes "b") ∷ Fixed Comma ∷ Fixed Output ∷ Name (codes "y")
+    ∷ Fixed Close ∷ Fixed Semicolon
+    ∷ Fixed Wire ∷ Name (codes "w") ∷ Fixed Semicolon
+    ∷ GateWord Not ∷ Fixed Open ∷ Name (codes "p") ∷ Fixed Comma ∷ Name (codes "y") ∷ Fixed Comma
+    ∷ Name (codes "a") ∷ Fixed Ampersand ∷ Fixed Tilde ∷ Name (codes "b")
+    ∷ Fixed Close ∷ Fixed Semicolon ∷ Fixed EndModule ∷ []
 
-accepted-is-module : IsModule 256 accepted terminals
-accepted-is-module = record {
+two_nots-is-module : IsModule 256 two_nots terminals
+two_nots-is-module = record {
   named = _;
   headed = _;
   ended = _;
@@ -81,11 +81,11 @@ accepted-is-module = record {
 }
 
 pub returns-clause-tree : goal.returns-clause-tree
-returns-clause-tree c = record { terminals = terminals; is_module = accepted-is-module; few = omega arith }
+returns-clause-tree c = record { terminals = terminals; is_module = two_nots-is-module; few = omega arith }
 
 pub returns-clause-net : goal.returns-clause-net
 unfolding meaning
-returns-clause-net c = ((meaning accepted).1.0, refl)
+returns-clause-net c = ((meaning two_nots).1.0, refl)
 
 pub returns-clause-cycle : goal.returns-clause-cycle
 unfolding meaning

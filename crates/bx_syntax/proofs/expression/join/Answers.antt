@@ -1,5 +1,5 @@
 use Rattle.bx_syntax.proofs.ReadsExpressions.{joined_tree}
-use Rattle.bx_syntax.proofs.expression.joined.Goals as goal
+use Rattle.bx_syntax.proofs.expression.join.Goals as goal
 
 pub returns-clause-found : goal.returns-clause-found
 returns-clause-found c =

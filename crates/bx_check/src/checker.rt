@@ -20,7 +20,8 @@ use std::alloc::Global;
 /// `NoMemory`.
 pub fn check(alloc: Global, clauses: &Clauses, steps: &Steps) -> Result<bool, NoMemory>
     ensures exact { IfOk result (λ yes. IsTrue yes ↔ IsAccepted clauses.now steps.now) }
-    ensures sound { IfOk result (λ yes. IsTrue yes → (bits : List Bool) → AllTrue bits clauses.now.clauses → ⊥) }
+    ensures sound { IfOk result (λ yes. IsTrue yes → (bits : List Bool)
+        → AllTrue bits clauses.now.clauses → ⊥) }
 {
     is_accepted(alloc, clauses, steps)
 }
@@ -37,7 +38,8 @@ pub fn first_failure(
     steps: &Steps,
 ) -> Result<Option<u32>, NoMemory>
     requires { steps.now.first ≡ length clauses.now.clauses + 1 }
-    ensures fails { IfOk result (λ found. (k : ℕ) → (found ≡ Some k) ↔ IsFirstFailure clauses.now steps.now.steps k) }
+    ensures fails { IfOk result (λ found. (k : ℕ)
+        → (found ≡ Some k) ↔ IsFirstFailure clauses.now steps.now.steps k) }
     ensures pass { IfOk result (λ found. (found ≡ None) ↔ AllPass clauses.now steps.now.steps) }
 {
     let mut assignment = Assignment::new(alloc, clauses.vars())?;
@@ -110,7 +112,8 @@ fn take_negations(literals: &[Lit], assignment: &mut Assignment) -> Result<(), N
     requires ascending { AscendAbove 0 literals.now }
     requires within { All (λ l. l.var ≤ assignment.old.vars) literals.now }
     requires fresh { assignment.old.trues ≡ [] }
-    ensures { OnOk result (assignment.new ≡ record assignment.old { trues = map negated literals.now }) }
+    ensures { OnOk result (assignment.new
+        ≡ record assignment.old { trues = map negated literals.now }) }
 {
     for lit in literals {
         assignment.take(!*lit)?;
@@ -130,7 +133,9 @@ fn lead_to_false(
     requires within { AreWithin clauses.now.vars (take k steps.now.steps) }
     requires vars { assignment.old.vars ≡ clauses.now.vars }
     ensures exact { IfOk result (λ yes. (step : Step) → slice_get steps.now.steps k ≡ Some step
-        → IsTrue yes ↔ LeadsToFalse (with_steps clauses.now.clauses (take k steps.now.steps)) assignment.old.trues step.hints) }
+        → IsTrue yes
+        ↔ LeadsToFalse (with_steps clauses.now.clauses (take k steps.now.steps))
+        assignment.old.trues step.hints) }
     ensures vars { OnOk result (assignment.new.vars ≡ assignment.old.vars) }
 {
     let hints = steps.hints(k);
@@ -150,8 +155,10 @@ fn clause_of<'a>(clauses: &'a Clauses, steps: &'a Steps, id: u32) -> &'a [Lit]
     requires above { 0 < id }
     requires below { id ≤ length clauses.now.clauses + length steps.now.steps }
     ensures value { (k : ℕ) → id ≤ length clauses.now.clauses + k → k ≤ length steps.now.steps
-        → slice_get (with_steps clauses.now.clauses (take k steps.now.steps)) (id - 1) ≡ Some result.now }
-    ensures within { (k : ℕ) → id ≤ length clauses.now.clauses + k → AreWithin clauses.now.vars (take k steps.now.steps)
+        → slice_get (with_steps clauses.now.clauses (take k steps.now.steps)) (id - 1)
+        ≡ Some result.now }
+    ensures within { (k : ℕ) → id ≤ length clauses.now.clauses + k
+        → AreWithin clauses.now.vars (take k steps.now.steps)
         → All (λ l. l.var ≤ clauses.now.vars) result.now }
 {
     if id <= clauses.len() {

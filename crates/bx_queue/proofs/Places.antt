@@ -9,7 +9,7 @@ use Rattle.std.proofs.lemmas.List.FromFn.{length-range_with_len}
 use Rattle.bx_logic.specs.Lists.{AreDistinct}
 use Rattle.bx_queue.specs.Queue.{Queue, IsQueue, IsVariable, is_taken, first_free, without, moved_to_front}
 use Rattle.bx_queue.specs.Ring.{first_of, behind}
-use Rattle.bx_queue.specs.Stamps.{DoFall, numbered, AreTakenBefore, IsSearched, nearer, place_after, stamped}
+use Rattle.bx_queue.specs.Stamps.{DoFall, numbering, AreTakenBefore, IsSearched, nearer, place_after, stamping}
 use Rattle.bx_queue.proofs.Orders.{Contains-cases, same_or_not, without-same, without-other, AllByRecursion-without, IsQueue-marks, IsQueue-moved, IsQueue-first, All-variables}
 use Rattle.bx_queue.proofs.Rings.{of-each, first-keeps, behind-keeps, length-without, AllBelow-more}
 
@@ -56,37 +56,37 @@ first-greatest stamps (x ∷ xs) h = (omega arith, weaker (λ y. get_or stamps y
 
 -- numbering anew
 
-numbered-other : (v : ℕ) (xs : List ℕ) (top : ℕ) (stamps : List ℕ) → AllByRecursion (λ y. y ≢ v) xs → get_or (numbered xs top stamps) v 0 ≡ get_or stamps v 0
+numbered-other : (v : ℕ) (xs : List ℕ) (top : ℕ) (stamps : List ℕ) → AllByRecursion (λ y. y ≢ v) xs → get_or (numbering xs top stamps) v 0 ≡ get_or stamps v 0
 numbered-other v [] top stamps off = refl
 numbered-other v (x ∷ xs) top stamps off = numbered-other v xs (top - 1) (set stamps x top) off.1 ∙ get_or-set_other stamps x v top 0 (λ e. off.0 (sym e))
 
-pub length-numbered : (xs : List ℕ) (top : ℕ) (stamps : List ℕ) → length (numbered xs top stamps) ≡ length stamps
+pub length-numbered : (xs : List ℕ) (top : ℕ) (stamps : List ℕ) → length (numbering xs top stamps) ≡ length stamps
 length-numbered [] top stamps = refl
 length-numbered (x ∷ xs) top stamps = length-numbered xs (top - 1) (set stamps x top) ∙ length-set stamps x top
 
-numbered-first : (x : ℕ) (xs : List ℕ) (top : ℕ) (stamps : List ℕ) → AreDistinct (x ∷ xs) → x < length stamps → get_or (numbered (x ∷ xs) top stamps) x 0 ≡ top
+numbered-first : (x : ℕ) (xs : List ℕ) (top : ℕ) (stamps : List ℕ) → AreDistinct (x ∷ xs) → x < length stamps → get_or (numbering (x ∷ xs) top stamps) x 0 ≡ top
 numbered-first x xs top stamps once room = numbered-other x xs (top - 1) (set stamps x top) once.0 ∙ get_or-set_same stamps x top 0 room
 
 room-set : (stamps : List ℕ) (v t : ℕ) (xs : List ℕ) → AllByRecursion (λ y. y < length stamps) xs → AllByRecursion (λ y. y < length (set stamps v t)) xs
 room-set stamps v t xs h = subst (λ n. AllByRecursion (λ y. y < n) xs) (sym (length-set stamps v t)) h
 
 numbered-below : (xs : List ℕ) (top : ℕ) (stamps : List ℕ) → AreDistinct xs → AllByRecursion (λ y. y < length stamps) xs
-    → AllByRecursion (λ y. get_or (numbered xs top stamps) y 0 ≤ top) xs
+    → AllByRecursion (λ y. get_or (numbering xs top stamps) y 0 ≤ top) xs
 numbered-below [] top stamps once room = tt
 numbered-below (x ∷ xs) top stamps once room = (
   omega (arith, numbered-first x xs top stamps once room.0),
-  weaker (λ y. get_or (numbered xs (top - 1) (set stamps x top)) y 0 ≤ top - 1) (λ y. get_or (numbered (x ∷ xs) top stamps) y 0 ≤ top) (λ y b. omega (arith, b)) xs
+  weaker (λ y. get_or (numbering xs (top - 1) (set stamps x top)) y 0 ≤ top - 1) (λ y. get_or (numbering (x ∷ xs) top stamps) y 0 ≤ top) (λ y b. omega (arith, b)) xs
       (numbered-below xs (top - 1) (set stamps x top) once.1 (room-set stamps x top xs room.1)),
 )
 
 numbered-falls : (xs : List ℕ) (top : ℕ) (stamps : List ℕ) → AreDistinct xs → AllByRecursion (λ y. y < length stamps) xs → length xs ≤ top
-    → DoFall (numbered xs top stamps) xs
+    → DoFall (numbering xs top stamps) xs
 numbered-falls [] top stamps once room enough = tt
 numbered-falls (x ∷ xs) top stamps once room enough =
-    let first : get_or (numbered (x ∷ xs) top stamps) x 0 ≡ top = numbered-first x xs top stamps once room.0 in
+    let first : get_or (numbering (x ∷ xs) top stamps) x 0 ≡ top = numbered-first x xs top stamps once room.0 in
     let some : 0 < top = omega (arith, enough) in (
       omega (arith, first, some),
-      weaker (λ y. get_or (numbered xs (top - 1) (set stamps x top)) y 0 ≤ top - 1) (λ y. get_or (numbered (x ∷ xs) top stamps) y 0 < get_or (numbered (x ∷ xs) top stamps) x 0) (λ y b. omega (arith, b, first, some)) xs
+      weaker (λ y. get_or (numbering xs (top - 1) (set stamps x top)) y 0 ≤ top - 1) (λ y. get_or (numbering (x ∷ xs) top stamps) y 0 < get_or (numbering (x ∷ xs) top stamps) x 0) (λ y b. omega (arith, b, first, some)) xs
           (numbered-below xs (top - 1) (set stamps x top) once.1 (room-set stamps x top xs room.1)),
       numbered-falls xs (top - 1) (set stamps x top) once.1 (room-set stamps x top xs room.1) (omega (arith, enough)),
     )
@@ -95,9 +95,9 @@ numbered-falls (x ∷ xs) top stamps once room enough =
 
 stamped-falls : (last : ℕ) (stamps : List ℕ) (v above : ℕ) (xs : List ℕ) → AreDistinct (v ∷ xs) → AllByRecursion (λ y. y < length stamps) (v ∷ xs) → DoFall stamps xs
     → AllByRecursion (λ y. get_or stamps y 0 ≤ above) xs
-    → DoFall (stamped last (v ∷ xs) stamps v above) (v ∷ xs)
+    → DoFall (stamping last (v ∷ xs) stamps v above) (v ∷ xs)
 stamped-falls last stamps v above xs once room fall below =
-    either (λ s. DoFall s (v ∷ xs)) (nat_lt above last) (set stamps v (above + 1)) (numbered (v ∷ xs) (length (v ∷ xs)) stamps)
+    either (λ s. DoFall s (v ∷ xs)) (nat_lt above last) (set stamps v (above + 1)) (numbering (v ∷ xs) (length (v ∷ xs)) stamps)
     (λ _.
     let e : get_or (set stamps v (above + 1)) v 0 ≡ above + 1 = get_or-set_same stamps v (above + 1) 0 room.0 in (
       omega (arith, e),
@@ -108,15 +108,15 @@ stamped-falls last stamps v above xs once room fall below =
     (λ _. numbered-falls (v ∷ xs) (length (v ∷ xs)) stamps once room (omega arith))
 
 stamped-none : (last : ℕ) (stamps : List ℕ) (v above : ℕ) (xs : List ℕ) → AllByRecursion (λ y. y ≢ 0) (v ∷ xs)
-    → get_or (stamped last (v ∷ xs) stamps v above) 0 0 ≡ get_or stamps 0 0
+    → get_or (stamping last (v ∷ xs) stamps v above) 0 0 ≡ get_or stamps 0 0
 stamped-none last stamps v above xs off =
-    either (λ s. get_or s 0 0 ≡ get_or stamps 0 0) (nat_lt above last) (set stamps v (above + 1)) (numbered (v ∷ xs) (length (v ∷ xs)) stamps)
+    either (λ s. get_or s 0 0 ≡ get_or stamps 0 0) (nat_lt above last) (set stamps v (above + 1)) (numbering (v ∷ xs) (length (v ∷ xs)) stamps)
     (λ _. get_or-set_other stamps v 0 (above + 1) 0 (λ e. off.0 (sym e)))
     (λ _. numbered-other 0 (v ∷ xs) (length (v ∷ xs)) stamps off)
 
-pub length-stamped : (last : ℕ) (order stamps : List ℕ) (v above : ℕ) → length (stamped last order stamps v above) ≡ length stamps
+pub length-stamped : (last : ℕ) (order stamps : List ℕ) (v above : ℕ) → length (stamping last order stamps v above) ≡ length stamps
 length-stamped last order stamps v above =
-    either (λ (s : List ℕ). length s ≡ length stamps) (nat_lt above last) (set stamps v (above + 1)) (numbered order (length order) stamps)
+    either (λ (s : List ℕ). length s ≡ length stamps) (nat_lt above last) (set stamps v (above + 1)) (numbering order (length order) stamps)
     (λ _. length-set stamps v (above + 1))
     (λ _. length-numbered order (length order) stamps)
 
@@ -327,7 +327,7 @@ before-moved order taken place v h =
 
 pub searched-moved : (last : ℕ) (order : List ℕ) (taken : List Bool) (stamps : List ℕ) (place v above : ℕ) → IsSearched order taken stamps place
     → IsVariable (length taken) v → above ≡ get_or stamps (first_of order) 0
-    → IsSearched (moved_to_front v order) taken (stamped last (moved_to_front v order) stamps v above) (place_after order taken place v)
+    → IsSearched (moved_to_front v order) taken (stamping last (moved_to_front v order) stamps v above) (place_after order taken place v)
 searched-moved last order taken stamps place v above s h e =
     let queue : IsQueue (record { order = moved_to_front v order; taken = taken }) = IsQueue-moved v order taken h s.queue in
     record {
@@ -386,21 +386,21 @@ variable-inside order taken q v e h = subst (λ (p : Queue). IsVariable (length 
 -- a move as the calls read and write
 pub searched-written : (last : ℕ) (order : List ℕ) (taken : List Bool) (stamps : List ℕ) (place v first above after : ℕ) (moved written : List ℕ)
     → IsSearched order taken stamps place → IsVariable (length taken) v
-    → moved ≡ moved_to_front v order → first ≡ first_of order → above ≡ get_or stamps first above → written ≡ stamped last moved stamps v above
+    → moved ≡ moved_to_front v order → first ≡ first_of order → above ≡ get_or stamps first above → written ≡ stamping last moved stamps v above
     → after ≡ place_after order taken place v
     → IsSearched moved taken written after
 searched-written last order taken stamps place v first above after moved written s h e f g w a =
     let room : first_of order < length stamps = first-keeps (λ y. y < length stamps) order (omega (arith, s.each)) (weaker (IsVariable (length taken)) (λ y. y < length stamps) (λ y k. omega (arith, k.1, s.each)) order (each-variable order taken s.queue)) in
     let read : above ≡ get_or stamps (first_of order) 0 = get_or_read stamps first above (omega (arith, f, room)) g 0 ∙ ap (λ k. get_or stamps k 0) f in
-    let here : written ≡ stamped last (moved_to_front v order) stamps v above = w ∙ ap (λ zs. stamped last zs stamps v above) e in
+    let here : written ≡ stamping last (moved_to_front v order) stamps v above = w ∙ ap (λ zs. stamping last zs stamps v above) e in
     subst (λ xs. IsSearched xs taken written after) (sym e)
     (subst (λ ws. IsSearched (moved_to_front v order) taken ws after) (sym here)
-    (subst (IsSearched (moved_to_front v order) taken (stamped last (moved_to_front v order) stamps v above)) (sym a)
+    (subst (IsSearched (moved_to_front v order) taken (stamping last (moved_to_front v order) stamps v above)) (sym a)
     (searched-moved last order taken stamps place v above s h read)))
 
 -- the first queue
 pub searched-first : (n top : ℕ) → n ≤ top → n < 2 ^ 32
-    → IsSearched (range_with_len 1 n) (replicate n false) (numbered (range_with_len 1 n) top (replicate (n + 1) 0)) (first_of (range_with_len 1 n))
+    → IsSearched (range_with_len 1 n) (replicate n false) (numbering (range_with_len 1 n) top (replicate (n + 1) 0)) (first_of (range_with_len 1 n))
 searched-first n top enough small =
     let marks : length (replicate n false) ≡ n = length-replicate n false in
     let zeros : List ℕ = replicate (n + 1) 0 in
@@ -432,14 +432,14 @@ first-free order taken marks place q e some room h free =
 
 -- the first queue, as the calls make it
 pub searched-made : (n top first : ℕ) (order : List ℕ) (taken : List Bool) (stamps written : List ℕ) → n ≤ top → n < 2 ^ 32 → order ≡ range_with_len 1 n
-    → taken ≡ replicate n false → stamps ≡ replicate (n + 1) 0 → written ≡ numbered order top stamps → first ≡ first_of order
+    → taken ≡ replicate n false → stamps ≡ replicate (n + 1) 0 → written ≡ numbering order top stamps → first ≡ first_of order
     → IsSearched order taken written first
 searched-made n top first order taken stamps written enough small e f g w p =
     let start : List ℕ = range_with_len 1 n in
     let zeros : List ℕ = replicate (n + 1) 0 in
-    let is_written : written ≡ numbered start top zeros = w ∙ (ap (λ xs. numbered xs top stamps) e ∙ ap (numbered start top) g) in
+    let is_written : written ≡ numbering start top zeros = w ∙ (ap (λ xs. numbering xs top stamps) e ∙ ap (numbering start top) g) in
     let is_first : first ≡ first_of start = p ∙ ap first_of e in
     subst (λ xs. IsSearched xs taken written first) (sym e)
     (subst (λ ts. IsSearched start ts written first) (sym f)
     (subst (λ ws. IsSearched start (replicate n false) ws first) (sym is_written)
-    (subst (IsSearched start (replicate n false) (numbered start top zeros)) (sym is_first) (searched-first n top enough small))))
+    (subst (IsSearched start (replicate n false) (numbering start top zeros)) (sym is_first) (searched-first n top enough small))))

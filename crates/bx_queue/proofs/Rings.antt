@@ -9,7 +9,7 @@ use Rattle.std.proofs.lemmas.List.FromFn.{length-range_with_len, get_or-range_wi
 use Rattle.bx_logic.specs.Lists.{AreDistinct}
 use Rattle.bx_queue.specs.Queue.{without, moved_to_front}
 use Rattle.bx_queue.specs.Ring.{first_of, behind, walk, linked_list, IsLinked, IsRing}
-use Rattle.bx_queue.specs.Stamps.{numbered}
+use Rattle.bx_queue.specs.Stamps.{numbering}
 use Rattle.bx_queue.proofs.Orders.{Contains-cases, same_or_not, without-same, without-other, AreDistinct-without, AllByRecursion-without, without-gone, AllBelow-range, AreDistinct-range}
 
 -- what holds of each holds of one that stands in the list
@@ -285,8 +285,8 @@ stands next order v e h = subst (λ xs. Contains xs v) (sym e) h
 -- one step of numbering along the links
 pub number-more : (next stamps wanted : List ℕ) (at x left less top lower : ℕ) → left ≡ suc less → lower ≡ top - 1 → x ≡ get_or next at 0
     → AllByRecursion (λ v. v < length next) (walk next at left) → AllByRecursion (λ v. v < length stamps) (walk next at left)
-    → numbered (walk next at left) top stamps ≡ wanted
-    → (x < length next) × AllByRecursion (λ v. v < length next) (walk next x less) × AllByRecursion (λ v. v < length (set stamps x top)) (walk next x less) × (numbered (walk next x less) lower (set stamps x top) ≡ wanted)
+    → numbering (walk next at left) top stamps ≡ wanted
+    → (x < length next) × AllByRecursion (λ v. v < length next) (walk next x less) × AllByRecursion (λ v. v < length (set stamps x top)) (walk next x less) × (numbering (walk next x less) lower (set stamps x top) ≡ wanted)
 number-more next stamps wanted at x left less top lower e f g room other h =
     let steps : walk next at left ≡ x ∷ walk next x less = ap (walk next at) e ∙ ap (λ y. y ∷ walk next y less) (sym g) in
     let rooms : AllByRecursion (λ v. v < length next) (x ∷ walk next x less) = subst (AllByRecursion (λ v. v < length next)) steps room in
@@ -294,7 +294,7 @@ number-more next stamps wanted at x left less top lower e f g room other h =
       rooms.0,
       rooms.1,
       subst (λ n. AllByRecursion (λ v. v < n) (walk next x less)) (sym (length-set stamps x top)) others.1,
-      ap (λ k. numbered (walk next x less) k (set stamps x top)) f ∙ (ap (λ zs. numbered zs top stamps) (sym steps) ∙ h),
+      ap (λ k. numbering (walk next x less) k (set stamps x top)) f ∙ (ap (λ zs. numbering zs top stamps) (sym steps) ∙ h),
     )
 
 -- what is read beside a number: who stands before it and behind it

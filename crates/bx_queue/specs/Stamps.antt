@@ -11,9 +11,9 @@ DoFall stamps [] = ⊤
 DoFall stamps (x ∷ xs) = (0 < slice_index stamps x) × AllByRecursion (λ y. slice_index stamps y < slice_index stamps x) xs × DoFall stamps xs
 
 -- the stamps, where falling numbers from this one on are written along the list
-abbrev pub numbered : List ℕ → ℕ → List ℕ → List ℕ
-numbered [] top stamps = stamps
-numbered (x ∷ xs) top stamps = numbered xs (top - 1) (slice_set stamps x top)
+abbrev pub numbering : List ℕ → ℕ → List ℕ → List ℕ
+numbering [] top stamps = stamps
+numbering (x ∷ xs) top stamps = numbering xs (top - 1) (slice_set stamps x top)
 
 -- every variable before the place is taken; no variable is at the place 0, so all are taken there
 abbrev pub AreTakenBefore : ℕ → List Bool → List ℕ → Type 0
@@ -46,5 +46,5 @@ abbrev pub place_after : List ℕ → List Bool → ℕ → ℕ → ℕ
 place_after order taken place v = if slice_index_or taken (v - 1) false then (if place == v then behind v order else place) else v
 
 -- the stamps when the first of this list is new there: above those of the others, or all of them anew
-abbrev pub stamped : ℕ → List ℕ → List ℕ → ℕ → ℕ → List ℕ
-stamped last order stamps v above = if nat_lt above last then slice_set stamps v (above + 1) else numbered order (length order) stamps
+abbrev pub stamping : ℕ → List ℕ → List ℕ → ℕ → ℕ → List ℕ
+stamping last order stamps v above = if nat_lt above last then slice_set stamps v (above + 1) else numbering order (length order) stamps

@@ -5,5 +5,6 @@ ghost use Rattle.bx_queue.specs.Queue.{moved_to_front};
 
 /// Who moves to the front is first, and the others keep their order.
 pub fn the_others_keep_their_order()
-    ensures { (v : ℕ) (order : List ℕ) → filter (λ x. not (x == v)) (moved_to_front v order) ≡ filter (λ x. not (x == v)) order }
+    ensures { (v : ℕ) (order : List ℕ)
+        → filter (λ x. not (x == v)) (moved_to_front v order) ≡ filter (λ x. not (x == v)) order }
 {}

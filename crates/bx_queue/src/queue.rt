@@ -14,7 +14,7 @@ ghost use Rattle.std.specs.Prelude.{◌≡◌, ◌++◌, ◌∷◌, ℕ, ◌+◌
 ghost use Rattle.std.specs.List.{range_with_len, AllByRecursion};
 ghost use Rattle.bx_queue.specs.Queue.{Queue, IsQueue, IsVariable, is_taken, first_free, moved_to_front};
 ghost use Rattle.bx_queue.specs.Ring.{first_of};
-ghost use Rattle.bx_queue.specs.Stamps.{AreTakenBefore, nearer, place_after, stamped};
+ghost use Rattle.bx_queue.specs.Stamps.{AreTakenBefore, nearer, place_after, stamping};
 
 use crate::ring::Ring;
 use bx_logic::NoMemory;
@@ -100,8 +100,10 @@ impl MoveFront {
     pub fn first_unassigned(&mut self) -> Option<u32>
         ensures first { result ≡ first_free self.old }
         ensures stays { self.new ≡ self.old }
-        ensures within { IfSome result (λ v. IsVariable (length self.old.taken) v × (is_taken self.old v ≡ false)) }
-        ensures none { result ≡ None → (v : ℕ) → IsVariable (length self.old.taken) v → is_taken self.old v ≡ true }
+        ensures within { IfSome result (λ v. IsVariable (length self.old.taken) v
+            × (is_taken self.old v ≡ false)) }
+        ensures none { result ≡ None → (v : ℕ) → IsVariable (length self.old.taken) v
+            → is_taken self.old v ≡ true }
     {
         self.place = free_from(&self.ring, &self.taken, self.place);
         if self.place == 0 {
@@ -143,7 +145,8 @@ fn free_from(ring: &Ring, taken: &[bool], place: u32) -> u32
     requires before { AreTakenBefore place taken.now ring.now }
     ensures within { result ≤ length taken.now }
     ensures before { AreTakenBefore result taken.now ring.now }
-    ensures free { result ≢ 0 → is_taken (record { order = ring.now; taken = taken.now }) result ≡ false }
+    ensures free { result ≢ 0 → is_taken (record { order = ring.now; taken = taken.now }) result
+        ≡ false }
 {
     let mut at = place;
     while at != 0 && taken[at as usize - 1] {
@@ -175,7 +178,7 @@ fn stamp_first(ring: &Ring, stamps: &mut [u32], var: u32, above: u32)
     requires each { length stamps.old ≡ length ring.now + 1 }
     requires room { AllByRecursion (λ v. v < length stamps.old) ring.now }
     requires few { length ring.now < 2 ^ 32 }
-    ensures { stamps.new ≡ stamped (2 ^ 32 - 1) ring.now stamps.old var above }
+    ensures { stamps.new ≡ stamping (2 ^ 32 - 1) ring.now stamps.old var above }
 {
     if above < u32::MAX {
         stamps[var as usize] = above + 1;

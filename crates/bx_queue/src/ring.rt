@@ -8,7 +8,7 @@ ghost use Rattle.std.specs.List.{range_with_len, AllByRecursion};
 ghost use Rattle.bx_logic.specs.Lists.{AreDistinct};
 ghost use Rattle.bx_queue.specs.Queue.{moved_to_front};
 ghost use Rattle.bx_queue.specs.Ring.{first_of, behind};
-ghost use Rattle.bx_queue.specs.Stamps.{numbered};
+ghost use Rattle.bx_queue.specs.Stamps.{numbering};
 
 use bx_logic::NoMemory;
 use std::alloc::Global;
@@ -80,7 +80,7 @@ impl Ring {
     pub(crate) fn number(&self, stamps: &mut [u32], top: u32)
         requires room { AllByRecursion (λ v. v < length stamps.old) self.now }
         requires enough { length self.now ≤ top }
-        ensures { stamps.new ≡ numbered self.now top stamps.old }
+        ensures { stamps.new ≡ numbering self.now top stamps.old }
     {
         let mut at = 0;
         for before in 0..self.next.len() - 1 {

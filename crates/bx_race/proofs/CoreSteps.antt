@@ -6,7 +6,7 @@ use Rattle.std.proofs.lemmas.Bool.{cases_lt, lt-ltb, le-ltb}
 use mathlib.Core.Option.{some}
 use lib.ListN.{get_elem?}
 use Rattle.bx_race.specs.declared.view.Draws.{Draws}
-use Rattle.bx_race.specs.Draws.{no_draws, times, indices, has_ended, claimed, offering, looked}
+use Rattle.bx_race.specs.Draws.{no_draws, times, indices, has_ended, claiming, offering, looking}
 use Rattle.bx_race.specs.Core.{Standing, Event, Claim, Offer, Look, worker_of, draws_at, is_settled, allows, effect, after, start, run, AllEnded, IsRefuted, Settles}
 use Rattle.bx_race.specs.Fair.{RespectsLeast, IsFair}
 use Rattle.bx_race.proofs.Counts.{All-set, All-at, All-append, All-lists, All-replicate, sum_by-zeros, at_place}
@@ -59,10 +59,10 @@ settled_list : (table : List Bool) (o : Option ℕ) → is_settled table o ≡ t
 settled_list table None is = tt
 settled_list table (Some i) is = (is, tt)
 
-claimed_idle : (n x : ℕ) (d : Draws) → not (has_ended d) ≡ true → IsIdleAtEnd (claimed n x d)
+claimed_idle : (n x : ℕ) (d : Draws) → not (has_ended d) ≡ true → IsIdleAtEnd (claiming n x d)
 claimed_idle n x d running ended =
     elim (claim_cases n x) [
-      | inl (_, _, same) ↦ (let more : 0 < length d.offered + length d.dropped + (d.past + past_step n x) = has_ended-positive (claimed n x d) ended in absurd (omega (arith, running-none d running)))
+      | inl (_, _, same) ↦ (let more : 0 < length d.offered + length d.dropped + (d.past + past_step n x) = has_ended-positive (claiming n x d) ended in absurd (omega (arith, running-none d running)))
       | inr (_, none, _) ↦ none
     ]
 
@@ -70,14 +70,14 @@ is_some-some : (o : Option ℕ) → is_some o ≡ true → (i : ℕ) × (o ≡ S
 is_some-some None is = absurd (true≢false (sym is))
 is_some-some (Some i) is = (i, refl)
 
-looked_idle : (least : ℕ) (d : Draws) → IsIdleAtEnd d → IsIdleAtEnd (looked least d)
+looked_idle : (least : ℕ) (d : Draws) → IsIdleAtEnd d → IsIdleAtEnd (looking least d)
 looked_idle least d idle =
     elim (look_cases least d) [
       | inl (_, _, _, drops) ↦ subst IsIdleAtEnd (sym drops) (λ _. refl)
       | inr stays ↦ subst IsIdleAtEnd (sym stays) idle
     ]
 
-looked_done : (least : ℕ) (d : Draws) → (looked least d).done ≡ d.done
+looked_done : (least : ℕ) (d : Draws) → (looking least d).done ≡ d.done
 looked_done least d =
     elim (look_cases least d) [
       | inl (_, _, _, drops) ↦ ap (λ u. u.done) drops
@@ -94,9 +94,9 @@ module _ (table : List Bool) (s : Standing) (k : Keeps table s) where
       let (running, settled) = both_true (not (has_ended d)) (is_settled table d.current) may in
       record {
         fair = claim_is_fair (length table) s.next s.least s.workers w d k.fair there;
-        refuted = All-set (λ u. AllByRecursion (IsRefuted table) u.done) s.workers w (claimed (length table) s.next d) k.refuted
+        refuted = All-set (λ u. AllByRecursion (IsRefuted table) u.done) s.workers w (claiming (length table) s.next d) k.refuted
             (All-append (IsRefuted table) d.done (option_to_list d.current) (All-at (λ u. AllByRecursion (IsRefuted table) u.done) s.workers w d k.refuted there) (settled_list table d.current settled));
-        idle = All-set IsIdleAtEnd s.workers w (claimed (length table) s.next d) k.idle (claimed_idle (length table) s.next d running);
+        idle = All-set IsIdleAtEnd s.workers w (claiming (length table) s.next d) k.idle (claimed_idle (length table) s.next d running);
       }
   kept (Offer w) d there may =
       let (i, is) = is_some-some d.current may in
@@ -107,9 +107,9 @@ module _ (table : List Bool) (s : Standing) (k : Keeps table s) where
       }
   kept (Look w) d there may = record {
     fair = look_is_fair (length table) s.next s.least s.workers w d k.fair there;
-    refuted = All-set (λ u. AllByRecursion (IsRefuted table) u.done) s.workers w (looked s.least d) k.refuted
+    refuted = All-set (λ u. AllByRecursion (IsRefuted table) u.done) s.workers w (looking s.least d) k.refuted
         (subst (AllByRecursion (IsRefuted table)) (sym (looked_done s.least d)) (All-at (λ u. AllByRecursion (IsRefuted table) u.done) s.workers w d k.refuted there));
-    idle = All-set IsIdleAtEnd s.workers w (looked s.least d) k.idle (looked_idle s.least d (All-at IsIdleAtEnd s.workers w d k.idle there));
+    idle = All-set IsIdleAtEnd s.workers w (looking s.least d) k.idle (looked_idle s.least d (All-at IsIdleAtEnd s.workers w d k.idle there));
   }
 
   by_choice : (e : Event) (d : Draws) (b : Bool) → (b ≡ true → Keeps table (effect (length table) e d s)) → Keeps table (cond b (effect (length table) e d s) s)
@@ -135,9 +135,9 @@ same_workers : (table : List Bool) (s : Standing) (e : Event) → length (after 
 same_workers table s e = by_choice (ltb (worker_of e) (length s.workers) && allows table e (draws_at s.workers (worker_of e)))
   where
     by_event : (e : Event) (d : Draws) → length (effect (length table) e d s).workers ≡ length s.workers
-    by_event (Claim w) d = length-set s.workers w (claimed (length table) s.next d)
+    by_event (Claim w) d = length-set s.workers w (claiming (length table) s.next d)
     by_event (Offer w) d = length-set s.workers w (offering d)
-    by_event (Look w) d = length-set s.workers w (looked s.least d)
+    by_event (Look w) d = length-set s.workers w (looking s.least d)
 
     by_choice : (b : Bool) → length (cond b (effect (length table) e (draws_at s.workers (worker_of e)) s) s).workers ≡ length s.workers
     by_choice true = by_event e (draws_at s.workers (worker_of e))

@@ -8,7 +8,7 @@ use Rattle.std.proofs.lemmas.Bool.{lt-ltb, le-ltb, cases_lt}
 use Rattle.std.proofs.lemmas.Bool.Decides.{eqb_tells}
 use Rattle.atomic_table.proofs.Lists.{set_again}
 use Rattle.bx_race.specs.declared.view.Draws.{Draws}
-use Rattle.bx_race.specs.Draws.{times, indices, index_below, claimed, offering, dropping, is_above, looked}
+use Rattle.bx_race.specs.Draws.{times, indices, index_below, claiming, offering, dropping, is_above, looking}
 use Rattle.bx_race.specs.Core.{times_offered}
 use Rattle.bx_race.specs.Fair.{once_below, times_drawn, times_past, RespectsLeast, IsFair}
 use Rattle.bx_race.proofs.Counts.{sum_by-set, All-set, All-at, All-append, All-from, times-append, times-cons, times-same}
@@ -20,8 +20,8 @@ times-indices i d =
     omega (arith, times-append i (c ++ d.done ++ d.offered) d.dropped, times-append i (c ++ d.done) d.offered, times-append i c d.done)
 
 -- drawing x adds it, where it is an index, and takes nothing away
-pub times-claimed : (n x i : ℕ) (d : Draws) → times i (indices (claimed n x d)) ≡ times i (option_to_list (index_below n x)) + times i (indices d)
-times-claimed n x i d = omega (arith, times-indices i d, times-indices i (claimed n x d), times-append i d.done (option_to_list d.current))
+pub times-claimed : (n x i : ℕ) (d : Draws) → times i (indices (claiming n x d)) ≡ times i (option_to_list (index_below n x)) + times i (indices d)
+times-claimed n x i d = omega (arith, times-indices i d, times-indices i (claiming n x d), times-append i d.done (option_to_list d.current))
 
 pub times-offering : (i : ℕ) (d : Draws) → times i (indices (offering d)) ≡ times i (indices d)
 times-offering i d = omega (arith, times-indices i d, times-indices i (offering d), times-append i d.offered (option_to_list d.current))
@@ -88,9 +88,9 @@ counted-claim n next past e =
       | inr (l, _, is) ↦ omega arith
     ]
 
-pub claim_is_fair : (n next least : ℕ) (ws : List Draws) (w : ℕ) (d : Draws) → IsFair n next least ws → get_elem? ws w ≡ some d → IsFair n (next + 1) least (set ws w (claimed n next d))
+pub claim_is_fair : (n next least : ℕ) (ws : List Draws) (w : ℕ) (d : Draws) → IsFair n next least ws → get_elem? ws w ≡ some d → IsFair n (next + 1) least (set ws w (claiming n next d))
 claim_is_fair n next least ws w d f there =
-    let e = claimed n next d in
+    let e = claiming n next d in
     record {
       once = λ i. omega (arith, times_drawn-set ws w d e there i, times-claimed n next i d, f.once i, once_below-claim n next i);
       counted = omega (arith, times_past-set ws w d e there, counted-claim n next (times_past ws) f.counted);
@@ -99,8 +99,8 @@ claim_is_fair n next least ws w d f there =
     }
 
 -- an index that is current joins a list
-joined : (P : ℕ → Type 0) (o : Option ℕ) (i : ℕ) → o ≡ Some i → P i → AllByRecursion P (option_to_list o)
-joined P o i is p = subst (λ c. AllByRecursion P (option_to_list c)) (sym is) (p, tt)
+joint : (P : ℕ → Type 0) (o : Option ℕ) (i : ℕ) → o ≡ Some i → P i → AllByRecursion P (option_to_list o)
+joint P o i is p = subst (λ c. AllByRecursion P (option_to_list c)) (sym is) (p, tt)
 
 lowered : (least i : ℕ) (d : Draws) → RespectsLeast least d → RespectsLeast (min least i) d
 lowered least i d r = (All-from (λ j. least < j) (λ j. min least i < j) d.dropped (λ j l. omega arith) r.0, All-from (λ j. least ≤ j) (λ j. min least i ≤ j) d.offered (λ j l. omega arith) r.1)
@@ -108,7 +108,7 @@ lowered least i d r = (All-from (λ j. least < j) (λ j. min least i < j) d.drop
 offering_respects : (least i : ℕ) (d : Draws) → d.current ≡ Some i → RespectsLeast least d → RespectsLeast (min least i) (offering d)
 offering_respects least i d is r =
     let below = lowered least i d r in
-    (below.0, All-append (λ j. min least i ≤ j) d.offered (option_to_list d.current) below.1 (joined (λ j. min least i ≤ j) d.current i is (omega arith)))
+    (below.0, All-append (λ j. min least i ≤ j) d.offered (option_to_list d.current) below.1 (joint (λ j. min least i ≤ j) d.current i is (omega arith)))
 
 times-joined : (o : Option ℕ) (i : ℕ) → o ≡ Some i → times i (option_to_list o) ≡ 1
 times-joined o i is = ap (λ c. times i (option_to_list c)) is ∙ times-same i
@@ -135,10 +135,10 @@ offer_is_fair n next least i ws w d is f there =
     same a b l = omega arith
 
 -- a look drops the current index where the least is below it, and else leaves all
-pub look_cases : (least : ℕ) (d : Draws) → ((i : ℕ) × (d.current ≡ Some i) × (least < i) × (looked least d ≡ dropping d)) ⊎ (looked least d ≡ d)
+pub look_cases : (least : ℕ) (d : Draws) → ((i : ℕ) × (d.current ≡ Some i) × (least < i) × (looking least d ≡ dropping d)) ⊎ (looking least d ≡ d)
 look_cases least d = cases d.current refl
   where
-    cases : (o : Option ℕ) → d.current ≡ o → ((i : ℕ) × (d.current ≡ Some i) × (least < i) × (looked least d ≡ dropping d)) ⊎ (looked least d ≡ d)
+    cases : (o : Option ℕ) → d.current ≡ o → ((i : ℕ) × (d.current ≡ Some i) × (least < i) × (looking least d ≡ dropping d)) ⊎ (looking least d ≡ d)
     cases None is = inr (ap (λ c. cond (is_above least c) (dropping d) d) is)
     cases (Some i) is = elim (cases_lt least i) [
       | inl l ↦ inl (i, is, l, ap (λ c. cond (is_above least c) (dropping d) d) is ∙ ap (λ b. cond b (dropping d) d) (lt-ltb least i l))
@@ -146,7 +146,7 @@ look_cases least d = cases d.current refl
     ]
 
 pub dropping_respects : (least i : ℕ) (d : Draws) → d.current ≡ Some i → least < i → RespectsLeast least d → RespectsLeast least (dropping d)
-dropping_respects least i d is l r = (All-append (λ j. least < j) d.dropped (option_to_list d.current) r.0 (joined (λ j. least < j) d.current i is l), r.1)
+dropping_respects least i d is l r = (All-append (λ j. least < j) d.dropped (option_to_list d.current) r.0 (joint (λ j. least < j) d.current i is l), r.1)
 
 drop_is_fair : (n next least i : ℕ) (ws : List Draws) (w : ℕ) (d : Draws) → d.current ≡ Some i → least < i → IsFair n next least ws → get_elem? ws w ≡ some d → IsFair n next least (set ws w (dropping d))
 drop_is_fair n next least i ws w d is l f there =
@@ -159,7 +159,7 @@ drop_is_fair n next least i ws w d is l f there =
       offered = elim f.offered [ inl all ↦ inl all | inr some_one ↦ inr (omega (arith, times_offered-set ws w d e there least)) ];
     }
 
-pub look_is_fair : (n next least : ℕ) (ws : List Draws) (w : ℕ) (d : Draws) → IsFair n next least ws → get_elem? ws w ≡ some d → IsFair n next least (set ws w (looked least d))
+pub look_is_fair : (n next least : ℕ) (ws : List Draws) (w : ℕ) (d : Draws) → IsFair n next least ws → get_elem? ws w ≡ some d → IsFair n next least (set ws w (looking least d))
 look_is_fair n next least ws w d f there =
     elim (look_cases least d) [
       | inl (i, is, l, drops) ↦ subst (λ e. IsFair n next least (set ws w e)) (sym drops) (drop_is_fair n next least i ws w d is l f there)

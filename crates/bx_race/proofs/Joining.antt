@@ -9,7 +9,7 @@ use Rattle.bx_race.specs.declared.seat.RaceSeat.{RaceSeat}
 use Rattle.bx_race.specs.declared.view.View.{View}
 use Rattle.bx_race.specs.Draws.{times, has_ended}
 use Rattle.bx_race.specs.Fair.{IsFair}
-use Rattle.bx_race.specs.Rule.{joined}
+use Rattle.bx_race.specs.Rule.{joint}
 use Rattle.bx_race.specs.Seats.{draws, looks, stands}
 use Rattle.bx_race.specs.Finished.{IsTogether, HaveEnded}
 use Rattle.bx_race.proofs.Counts.{times-cons}
@@ -26,7 +26,7 @@ together_one s = record {
   stands = omega (arith, sum_by-cons stands s []);
 }
 
-pub together_more : (s : RaceSeat) (taken : List RaceSeat) (v : View) → IsTogether taken v → IsTogether (s ∷ taken) (joined s.seat.me.0 v)
+pub together_more : (s : RaceSeat) (taken : List RaceSeat) (v : View) → IsTogether taken v → IsTogether (s ∷ taken) (joint s.seat.me.0 v)
 together_more s taken v t = record {
   done = ap (λ xs. (draws s).done ++ xs) t.done;
   offered = ap (λ xs. (draws s).offered ++ xs) t.offered;

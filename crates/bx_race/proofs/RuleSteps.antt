@@ -12,9 +12,9 @@ use Rattle.atomic_table.proofs.Lists.{at_map, set_again, set_else}
 use Rattle.bx_race.specs.declared.view.Draws.{Draws}
 use Rattle.bx_race.specs.declared.view.View.{View}
 use Rattle.bx_race.specs.declared.view.Course.{Course}
-use Rattle.bx_race.specs.Draws.{times, indices, no_draws, claimed, looked}
+use Rattle.bx_race.specs.Draws.{times, indices, no_draws, claiming, looking}
 use Rattle.bx_race.specs.Fair.{once_below, times_past, RespectsLeast, IsFair}
-use Rattle.bx_race.specs.Rule.{claim_word, least_word, draws_of, spent, StandsFor, IsRaced, Rule, after_claim, after_offer, after_look, without_seat, one_seat, joined, claims, offers, looks, closes}
+use Rattle.bx_race.specs.Rule.{claim_word, least_word, draws_of, spent, StandsFor, IsRaced, Rule, after_claim, after_offer, after_look, without_seat, one_seat, joint, claims, offers, looks, closes}
 use Rattle.bx_race.proofs.Counts.{sum_by-set, at-le-sum_by, All-set, All-at, All-append, times-append}
 use Rattle.bx_race.proofs.FairSteps.{times-indices, claim_is_fair, offer_is_fair, look_is_fair, dropping_respects, look_cases, once_below-in, once_below-out, claim_cases}
 
@@ -85,8 +85,8 @@ claim_keeps c slots id me small some_seat fresh_past s r sized at range =
     let there = draws_at c s.words s.views r id v at some_seat in
     let same = here.same_n in
     let w = after_claim x v in
-    let e = claimed c.n x v.draws in
-    let is : w.draws ≡ e = ap (λ n. claimed n x v.draws) same in
+    let e = claiming c.n x v.draws in
+    let is : w.draws ≡ e = ap (λ n. claiming n x v.draws) same in
     let f = claim_is_fair c.n x (least_word s.words) (map draws_of s.views) id v.draws r.fair there in
     let sum = λ (i : ℕ). sum_by-set (λ d. times i (indices d)) (map draws_of s.views) id v.draws e there in
     let one : w.draws.past ≤ w.stands = elim (claim_cases v.n x) [ inl (_, _, p) ↦ omega arith | inr (_, _, p) ↦ omega arith ] in (
@@ -123,14 +123,14 @@ offer_keeps c slots id k me some_seat current s r sized at range =
       (refl, refl),
     )
 
-looked-past : (least : ℕ) (d : Draws) → (looked least d).past ≡ d.past
+looked-past : (least : ℕ) (d : Draws) → (looking least d).past ≡ d.past
 looked-past least d =
     elim (look_cases least d) [
       | inl (_, _, _, drops) ↦ ap (λ u. u.past) drops
       | inr stays ↦ ap (λ u. u.past) stays
     ]
 
-look_respects : (least : ℕ) (d : Draws) → RespectsLeast least d → RespectsLeast least (looked least d)
+look_respects : (least : ℕ) (d : Draws) → RespectsLeast least d → RespectsLeast least (looking least d)
 look_respects least d r =
     elim (look_cases least d) [
       | inl (i, is, l, drops) ↦ subst (RespectsLeast least) (sym drops) (dropping_respects least i d is l r)
@@ -209,27 +209,27 @@ join_is_fair n next least ws a b d e f at there idle idle_too respects =
       ];
     }
 
-pub join_keeps : (c : Course) (id : ℕ) (v : View) (other : ℕ) (w : View) → 1 ≤ v.stands → v.draws.current ≡ None → w.draws.current ≡ None → Joins (Rule c) id v other w (joined v w) spent
+pub join_keeps : (c : Course) (id : ℕ) (v : View) (other : ℕ) (w : View) → 1 ≤ v.stands → v.draws.current ≡ None → w.draws.current ≡ None → Joins (Rule c) id v other w (joint v w) spent
 join_keeps c id v other w some_seat idle idle_too s r at apart there =
     let here = of_view c s.words s.views r id v at some_seat in
     let P : View → Type 0 = λ u. StandsFor c.n u ⊎ (u ≡ spent) in
-    let was : get_elem? s.views other ≡ some w = sym (set_else s.views id other (joined v w) apart) ∙ there in
+    let was : get_elem? s.views other ≡ some w = sym (set_else s.views id other (joint v w) apart) ∙ there in
     let theirs : P w = All-at P s.views other w r.each was in
     let past : w.draws.past ≤ w.stands = elim theirs [ inl t ↦ t.past | inr is ↦ omega (arith, ap (λ u. u.draws.past) is, ap (λ u. u.stands) is) ] in
     let ws = map draws_of s.views in
     let at' = at_map draws_of s.views id v at in
     let was' = at_map draws_of s.views other w was in
     let there' : get_elem? (set ws id (both v.draws w.draws)) other ≡ some w.draws = set_else ws id other (both v.draws w.draws) apart ∙ was' in
-    let same : map draws_of (set (set s.views id (joined v w)) other spent) ≡ set (set ws id (both v.draws w.draws)) other no_draws =
-    map-set draws_of (set s.views id (joined v w)) other spent ∙ ap (λ us. set us other no_draws) (map-set draws_of s.views id (joined v w)) in
+    let same : map draws_of (set (set s.views id (joint v w)) other spent) ≡ set (set ws id (both v.draws w.draws)) other no_draws =
+    map-set draws_of (set s.views id (joint v w)) other spent ∙ ap (λ us. set us other no_draws) (map-set draws_of s.views id (joint v w)) in
     record {
       two_words = r.two_words;
       fair = subst (IsFair c.n (claim_word s.words) (least_word s.words)) (sym same)
           (join_is_fair c.n (claim_word s.words) (least_word s.words) ws id other v.draws w.draws r.fair at' there' idle idle_too (All-at (RespectsLeast (least_word s.words)) ws other w.draws r.fair.respected was'));
-      each = All-set P (set s.views id (joined v w)) other spent
-          (All-set P s.views id (joined v w) r.each (inl record { some_seat = omega arith; past = omega (arith, here.past); same_n = here.same_n }))
+      each = All-set P (set s.views id (joint v w)) other spent
+          (All-set P s.views id (joint v w) r.each (inl record { some_seat = omega arith; past = omega (arith, here.past); same_n = here.same_n }))
           (inr refl);
-      all_seats = omega (arith, sum_by-set (λ u. u.stands) s.views id v (joined v w) at, sum_by-set (λ u. u.stands) (set s.views id (joined v w)) other w spent there, r.all_seats);
+      all_seats = omega (arith, sum_by-set (λ u. u.stands) s.views id v (joint v w) at, sum_by-set (λ u. u.stands) (set s.views id (joint v w)) other w spent there, r.all_seats);
     }
 
 -- where one view stands for all seats, what is added up over all is its own

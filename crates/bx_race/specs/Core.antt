@@ -2,7 +2,7 @@
 use Rattle.std.specs.Prelude.{◌≡◌, ◌⊎◌, ℕ, ◌+◌, ◌<◌, Bool, true, false, not, ◌&&◌, IsTrue, nat_lt, min, if◌then◌else◌, List, length, replicate, slice_index_or, slice_set, sum_by, Option, None, Some, is_some, unwrap_or, fold}
 use Rattle.std.specs.List.{AllByRecursion}
 use Rattle.bx_race.specs.declared.view.Draws.{Draws}
-use Rattle.bx_race.specs.Draws.{no_draws, times, has_ended, claimed, offering, looked}
+use Rattle.bx_race.specs.Draws.{no_draws, times, has_ended, claiming, offering, looking}
 
 -- next: the number that the next claim draws
 -- least: the least index that was offered, and the number of indices where none was
@@ -44,9 +44,9 @@ allows table (Look w) d = is_some d.current
 
 -- what the event leaves, where it is allowed
 abbrev pub effect : ℕ → Event → Draws → Standing → Standing
-effect n (Claim w) d s = record s { next = s.next + 1; workers = slice_set s.workers w (claimed n s.next d) }
+effect n (Claim w) d s = record s { next = s.next + 1; workers = slice_set s.workers w (claiming n s.next d) }
 effect n (Offer w) d s = record s { least = min s.least (unwrap_or d.current s.least); workers = slice_set s.workers w (offering d) }
-effect n (Look w) d s = record s { workers = slice_set s.workers w (looked s.least d) }
+effect n (Look w) d s = record s { workers = slice_set s.workers w (looking s.least d) }
 
 -- An event that isn't allowed changes nothing.
 abbrev pub after : List Bool → Standing → Event → Standing

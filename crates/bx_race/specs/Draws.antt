@@ -22,8 +22,8 @@ abbrev pub index_below : ℕ → ℕ → Option ℕ
 index_below n x = if nat_lt x n then Some x else None
 
 -- A claim that draws x: the index that was current is done, and x is current, if it is an index.
-abbrev pub claimed : ℕ → ℕ → Draws → Draws
-claimed n x d = record {
+abbrev pub claiming : ℕ → ℕ → Draws → Draws
+claiming n x d = record {
   current = index_below n x;
   done = d.done ++ option_to_list d.current;
   offered = d.offered;
@@ -56,5 +56,5 @@ is_above least None = false
 is_above least (Some i) = nat_lt least i
 
 -- A look that finds this least index: the current one is dropped where it is above.
-abbrev pub looked : ℕ → Draws → Draws
-looked least d = if is_above least d.current then dropping d else d
+abbrev pub looking : ℕ → Draws → Draws
+looking least d = if is_above least d.current then dropping d else d

@@ -6,7 +6,7 @@ use Rattle.atomic_table.specs.Table.{State, Me, Step}
 use Rattle.bx_race.specs.declared.view.Draws.{Draws}
 use Rattle.bx_race.specs.declared.view.View.{View}
 use Rattle.bx_race.specs.declared.view.Course.{Course}
-use Rattle.bx_race.specs.Draws.{times, indices, no_draws, claimed, offering, looked}
+use Rattle.bx_race.specs.Draws.{times, indices, no_draws, claiming, offering, looking}
 use Rattle.bx_race.specs.Fair.{once_below, RespectsLeast, IsFair}
 
 -- the first word counts the claims, the second is the least index that was offered, or n
@@ -52,7 +52,7 @@ Rule course s = IsRaced course s.words s.views
 
 -- Claim: the number that was found is drawn.
 abbrev pub after_claim : ℕ → View → View
-after_claim x v = record { n = v.n; draws = claimed v.n x v.draws; looks = v.looks; stands = v.stands }
+after_claim x v = record { n = v.n; draws = claiming v.n x v.draws; looks = v.looks; stands = v.stands }
 
 -- Offer: the current index is offered.
 abbrev pub after_offer : View → View
@@ -60,7 +60,7 @@ after_offer v = record { n = v.n; draws = offering v.draws; looks = v.looks; sta
 
 -- Look: the current index is dropped where the least word that was found is below it.
 abbrev pub after_look : ℕ → View → View
-after_look least v = record { n = v.n; draws = looked least v.draws; looks = v.looks + 1; stands = v.stands }
+after_look least v = record { n = v.n; draws = looking least v.draws; looks = v.looks + 1; stands = v.stands }
 
 -- Split: a seat of its own is cut off.
 abbrev pub without_seat : View → View
@@ -70,8 +70,8 @@ abbrev pub one_seat : View → View
 one_seat v = fresh v.n 1
 
 -- Join: the lists are joined and the numbers added.
-abbrev pub joined : View → View → View
-joined v w = record {
+abbrev pub joint : View → View → View
+joint v w = record {
   n = v.n;
   draws = record {
     current = None;

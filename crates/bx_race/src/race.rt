@@ -1,8 +1,8 @@
 //! A race's two words, and the steps on them: each is one atomic step.
 ghost use Rattle.std.specs.Prelude.{◌≡◌, ◌⊎◌, ◌<◌, ◌≤◌, ◌+◌, ◌-◌, ℕ, not, length, sum_by, All, Contains, IsSome, IsOk, IfOk, IfSome, None, MatchBool, MatchOption};
-ghost use Rattle.bx_race.specs.Draws.{no_draws, times, indices, index_below, claimed, offering, dropping, is_above, looked};
+ghost use Rattle.bx_race.specs.Draws.{no_draws, times, indices, index_below, claiming, offering, dropping, is_above, looking};
 ghost use Rattle.bx_race.specs.Fair.{RespectsLeast};
-ghost use Rattle.bx_race.specs.Rule.{AreDifferentBelow, joined};
+ghost use Rattle.bx_race.specs.Rule.{AreDifferentBelow, joint};
 
 use crate::finished::Finished;
 use crate::rule::{Claims, Closes, Joined, Looks, Offers, OneSeat, Raced};
@@ -56,7 +56,8 @@ impl Race {
         requires indices { n ≤ 65536 }
         requires seats { (1 ≤ seats) × (seats ≤ 16) }
         ensures race { IfOk result (λ r. (indices_of r.0 ≡ n) × (seats_of r.0 ≡ seats)) }
-        ensures seat { IfOk result (λ r. IsSeatOf r.0 r.1 × (stands r.1 ≡ seats) × (draws r.1 ≡ no_draws) × (looks r.1 ≡ 0)) }
+        ensures seat { IfOk result (λ r. IsSeatOf r.0 r.1 × (stands r.1 ≡ seats)
+            × (draws r.1 ≡ no_draws) × (looks r.1 ≡ 0)) }
     {
         let (table, seat) = Table::of_words(alloc, &[0, n], &Course { n, seats })?;
         let all = RaceSeat {
@@ -72,7 +73,8 @@ impl Race {
         requires more { 2 ≤ stands rest.old }
         requires unused { draws rest.old ≡ no_draws }
         ensures new { IsNewSeatOf self.now result }
-        ensures rest { IsSeatOf self.now rest.new × (draws rest.new ≡ no_draws) × (looks rest.new ≡ looks rest.old) × (stands rest.new + 1 ≡ stands rest.old) }
+        ensures rest { IsSeatOf self.now rest.new × (draws rest.new ≡ no_draws)
+            × (looks rest.new ≡ looks rest.old) × (stands rest.new + 1 ≡ stands rest.old) }
     {
         let seat = self.table.shared.split_seat::<OneSeat>(&mut rest.seat);
         RaceSeat {
@@ -88,10 +90,13 @@ impl Race {
         requires of_race { IsSeatOf self.now seat.old }
         requires in_race { (draws seat.old).past ≡ 0 }
         ensures seat { IsSameSeat self.now seat.old seat.new }
-        ensures drawn { (x : ℕ) × (result ≡ index_below (indices_of self.now) x) × (draws seat.new ≡ claimed (indices_of self.now) x (draws seat.old)) }
+        ensures drawn { (x : ℕ) × (result ≡ index_below (indices_of self.now) x)
+            × (draws seat.new ≡ claiming (indices_of self.now) x (draws seat.old)) }
         ensures current { (draws seat.new).current ≡ result }
         ensures index { IfSome result (λ i. i < indices_of self.now) }
-        ensures past { MatchOption result ((draws seat.new).past ≡ (draws seat.old).past + 1) (λ _. (draws seat.new).past ≡ (draws seat.old).past) }
+        ensures past { MatchOption result
+            ((draws seat.new).past ≡ (draws seat.old).past + 1)
+            (λ _. (draws seat.new).past ≡ (draws seat.old).past) }
         ensures different { AreDifferentBelow (indices_of self.now) (indices (draws seat.new)) }
         ensures looks { looks seat.new ≡ looks seat.old }
     {
@@ -109,8 +114,11 @@ impl Race {
         requires of_race { IsSeatOf self.now seat.old }
         requires drawn { IsSome (draws seat.old).current }
         ensures seat { IsSameSeat self.now seat.old seat.new }
-        ensures read { (least : ℕ) × (result ≡ not (is_above least (draws seat.old).current)) × (draws seat.new ≡ looked least (draws seat.old)) × RespectsLeast least (draws seat.new) }
-        ensures wanted { MatchBool result (draws seat.new ≡ draws seat.old) (draws seat.new ≡ dropping (draws seat.old)) }
+        ensures read { (least : ℕ) × (result ≡ not (is_above least (draws seat.old).current))
+            × (draws seat.new ≡ looking least (draws seat.old))
+            × RespectsLeast least (draws seat.new) }
+        ensures wanted { MatchBool result (draws seat.new ≡ draws seat.old)
+            (draws seat.new ≡ dropping (draws seat.old)) }
         ensures looks { looks seat.new ≡ looks seat.old + 1 }
     {
         let Some(current) = seat.current else {
@@ -148,15 +156,19 @@ impl Race {
         requires all { sum_by stands seats.items ≡ seats_of self }
         requires idle { All (λ s. (draws s).current ≡ None) seats.items }
         ensures ok { IsOk result }
-        ensures race { IfOk result (λ f. ((total f).n ≡ indices_of self) × ((total f).stands ≡ seats_of self)) }
+        ensures race { IfOk result (λ f. ((total f).n ≡ indices_of self)
+            × ((total f).stands ≡ seats_of self)) }
         ensures together { IfOk result (λ f. IsTogether seats.items (total f)) }
 
-        ensures claims { IfOk result (λ f. (claims : ℕ) × AreClaims (indices_of self) claims (total f).draws) }
+        ensures claims { IfOk result (λ f. (claims : ℕ)
+            × AreClaims (indices_of self) claims (total f).draws) }
         ensures offered { IfOk result (λ f. All (λ i. least_of f ≤ i) (total f).draws.offered) }
         ensures dropped { IfOk result (λ f. All (λ i. least_of f < i) (total f).draws.dropped) }
-        ensures least { IfOk result (λ f. (least_of f ≡ indices_of self) ⊎ Contains (total f).draws.offered (least_of f)) }
+        ensures least { IfOk result (λ f. (least_of f ≡ indices_of self)
+            ⊎ Contains (total f).draws.offered (least_of f)) }
 
-        ensures done { HaveEnded seats.items → IfOk result (λ f. (i : ℕ) → i < least_of f → times i (total f).draws.done ≡ 1) }
+        ensures done { HaveEnded seats.items
+            → IfOk result (λ f. (i : ℕ) → i < least_of f → times i (total f).draws.done ≡ 1) }
     {
         let RaceSeat {
             current: _,
@@ -188,7 +200,7 @@ impl Race {
         requires of_race { IsSeatOf self.now earlier × IsSeatOf self.now later }
         requires idle { ((draws earlier).current ≡ None) × ((draws later).current ≡ None) }
         ensures of_race { IsSeatOf self.now result }
-        ensures both { result.seat.me.0 ≡ joined earlier.seat.me.0 later.seat.me.0 }
+        ensures both { result.seat.me.0 ≡ joint earlier.seat.me.0 later.seat.me.0 }
     {
         let RaceSeat { current: _, seat } = later;
         self.table

@@ -61,9 +61,9 @@ impl Split<View> for OneSeat {
 pub struct Joined;
 
 impl Join<View> for Joined {
-    ghost use Rattle.bx_race.specs.Rule.{joined, spent};
+    ghost use Rattle.bx_race.specs.Rule.{joint, spent};
 
-    ghost both = { joined };
+    ghost both = { joint };
 
     ghost spent = { spent };
 }

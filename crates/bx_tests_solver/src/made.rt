@@ -46,24 +46,57 @@ pub fn add(clauses: &mut Clauses, literals: &[Lit]) -> Result<(), Fail> {
 /// by 0.
 pub fn steps(alloc: Global, first: u32, numbers: &[i32]) -> Result<Steps, Fail> {
     let mut steps = Steps::new(alloc, first);
-    let mut literals = Vec::new(alloc);
-    let mut hints = Vec::new(alloc);
-    let mut in_hints = false;
+    let mut part = Part::new(alloc);
     for number in numbers {
         if *number == 0 {
-            if in_hints {
-                add_step(&mut steps, &literals, &hints)?;
-                literals.clear();
-                hints.clear();
-            }
-            in_hints = !in_hints;
-        } else if in_hints {
-            hints.push(number.unsigned_abs())?;
+            part.end(&mut steps)?;
         } else {
-            literals.push(Lit::from_number(*number).ok_or("no literal")?)?;
+            part.take(*number)?;
         }
     }
     Ok(steps)
+}
+
+// A step as far as its numbers were read.
+#[derive(Drop)]
+struct Part {
+    literals: Vec<Lit>,
+    hints: Vec<u32>,
+    // its literals are ended
+    in_hints: bool,
+}
+
+impl Part {
+    // Nothing of a step.
+    fn new(alloc: Global) -> Self {
+        Part {
+            literals: Vec::new(alloc),
+            hints: Vec::new(alloc),
+            in_hints: false,
+        }
+    }
+
+    // Takes a number that isn't 0.
+    fn take(&mut self, number: i32) -> Result<(), Fail> {
+        if self.in_hints {
+            self.hints.push(number.unsigned_abs())?;
+        } else {
+            self.literals
+                .push(Lit::from_number(number).ok_or("no literal")?)?;
+        }
+        Ok(())
+    }
+
+    // Ends the literals, or the hints and with them the step.
+    fn end(&mut self, steps: &mut Steps) -> Result<(), Fail> {
+        if self.in_hints {
+            add_step(steps, &self.literals, &self.hints)?;
+            self.literals.clear();
+            self.hints.clear();
+        }
+        self.in_hints = !self.in_hints;
+        Ok(())
+    }
 }
 
 // Adds a step behind the others; an error where these make none.

@@ -1,4 +1,5 @@
 //! Steps as they were pushed, what is no step, and texts that are read, refused and written again.
+ghost use Rattle.std.specs.Prelude.{◌<◌, length};
 
 use crate::asserts::{is_bytes, is_found, is_number, is_so, is_so_of, is_text};
 use crate::made::{literals, push_steps, steps};
@@ -75,10 +76,18 @@ fn written(alloc: Global, text: &str) -> Result<Vec<u8>, Fail> {
     let steps = read_steps(alloc, text.as_bytes())?;
     let mut desk = MemDesk::new(alloc);
     desk.say_room(100)?;
-    let mut piece = Piece::to_say();
-    write_steps(&steps, &mut piece, &mut desk)?;
-    piece.end(&mut desk)?;
+    write(&steps, &mut desk)?;
     Ok(Vec::from_slice(alloc, desk.said())?)
+}
+
+// Writes steps, of which there are some, on a desk.
+fn write(steps: &Steps, desk: &mut MemDesk) -> Result<(), Fail>
+    requires { 0 < length steps.now.steps }
+{
+    let mut piece = Piece::to_say();
+    write_steps(steps, &mut piece, desk)?;
+    piece.end(desk)?;
+    Ok(())
 }
 
 const TEXTS: &[&str] = &[

@@ -44,6 +44,14 @@ impl Pulse for Few {
 
 // How a search ends, as one line, and how often the pulse was asked.
 fn line(alloc: Global, clauses: &Clauses, budget: u64, yes: u64) -> Result<String, Fail> {
+    let (end, asked) = end_of(alloc, clauses, budget, yes)?;
+    let mut text = words_of(alloc, &end)?;
+    text.push_str(format!(in alloc; " asked {asked}")?.as_str())?;
+    Ok(text)
+}
+
+// The same as a value.
+fn end_of(alloc: Global, clauses: &Clauses, budget: u64, yes: u64) -> Result<(Outcome, u64), Fail> {
     if yes > 1000 || budget > 4_000_000_000 || u64::from(clauses.len()) > 294_967_295 {
         return Err("too much".into());
     }
@@ -53,9 +61,7 @@ fn line(alloc: Global, clauses: &Clauses, budget: u64, yes: u64) -> Result<Strin
         stops: 0,
     };
     let end = solve(alloc, clauses, budget, &mut pulse)?;
-    let mut text = words_of(alloc, &end)?;
-    text.push_str(format!(in alloc; " asked {}", pulse.asked)?.as_str())?;
-    Ok(text)
+    Ok((end, pulse.asked))
 }
 
 // How a search ends: the bits, or the steps with the literals and hints of each, or what was spent.

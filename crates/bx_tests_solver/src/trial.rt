@@ -55,12 +55,17 @@ impl<'a> Trial<'a> {
 
     /// Assigns the literal of this number; an error where its variable isn't free.
     pub fn assigned(self, number: i32) -> Result<Self, Fail> {
+        let lit = Lit::from_number(number).ok_or("no literal")?;
+        self.assigned_literal(lit)
+    }
+
+    // Assigns a literal.
+    fn assigned_literal(self, lit: Lit) -> Result<Self, Fail> {
         let Trial {
             mut watched,
             clauses,
             mut trail,
         } = self;
-        let lit = Lit::from_number(number).ok_or("no literal")?;
         if lit.var() > clauses.vars() || !is_free(&trail, lit) {
             return Err("not a free variable".into());
         }
@@ -91,17 +96,22 @@ impl<'a> Trial<'a> {
 
     /// Adds the clause of these numbers.
     pub fn add(self, alloc: Global, numbers: &[i32]) -> Result<Self, Fail> {
+        let literals = literals(alloc, numbers)?;
+        self.add_literals(&literals)
+    }
+
+    // Adds the clause of these literals.
+    fn add_literals(self, literals: &[Lit]) -> Result<Self, Fail> {
         let Trial {
             mut watched,
             mut clauses,
             trail,
         } = self;
-        let literals = literals(alloc, numbers)?;
-        if !is_clause(&literals, clauses.vars()) || clauses.len() > 100 {
+        if !is_clause(literals, clauses.vars()) || clauses.len() > 100 {
             return Err("no clause".into());
         }
-        watched.add(&literals)?;
-        clauses.push(&literals)?;
+        watched.add(literals)?;
+        clauses.push(literals)?;
         Ok(Trial {
             watched,
             clauses,

@@ -52,7 +52,7 @@ pub freed-readable : (f : Formula) (a b : Assigned) (t : Tables) (l : Literal) �
 freed-readable f a b t l whole takes = subst (λ (n : ℕ). AreReadable n t l) (sym (takes.vars_stay ∙ whole.one_size)) (readable f a.literals t l whole.formed whole.kept (last-over f a b t l whole takes))
 
 pub freed-pending : (f : Formula) (a b : Assigned) (t u : Tables) (l : Literal) → IsWhole f a t → TakesLast a b (Some l) → Releases b.literals l t u → ArePending f b.literals u.pending
-freed-pending f a b t u l whole takes releases = pending-freed f b.literals t u l whole.formed (subst AreApart takes.split whole.trail.apart) (AreApart-freed b.literals l (subst AreApart takes.split whole.trail.apart))
+freed-pending f a b t u l whole takes releases = pending-freed f b.literals t u l whole.formed (subst AreApart takes.split whole.trail.apart)
     (subst (λ (ls : List Literal). IsKept f ls t) takes.split whole.kept) releases (subst (λ (ls : List Literal). ArePending f ls t.pending) takes.split whole.pending)
 
 pub freed-whole : (f : Formula) (a b : Assigned) (t u v : Tables) (l : Literal) → IsWhole f a t → TakesLast a b (Some l) → Releases b.literals l t u → Cleans f b.literals u v → IsWhole f b v

@@ -132,20 +132,24 @@ kept-freed f trail old new l kept releases = kept-with f trail old new (record {
   entries = kept.entries;
 }) releases.lists_stay releases.pairs_stay releases.more.sized
 
-pub pending-freed : (f : Formula) (trail : List Literal) (old new : Tables) (l : Literal) → IsFormula f → AreApart (trail ++ l ∷ []) → AreApart trail → IsKept f (trail ++ l ∷ []) old
+pub pending-freed : (f : Formula) (trail : List Literal) (old new : Tables) (l : Literal) → IsFormula f → AreApart (trail ++ l ∷ []) → IsKept f (trail ++ l ∷ []) old
     → Releases trail l old new → ArePending f (trail ++ l ∷ []) old.pending → ArePending f trail new.pending
-pending-freed f trail old new l formed apart front kept releases were k clause at active =
+pending-freed f trail old new l formed apart kept releases were k clause at active =
     let (pair, at_pair) = pair-at f (trail ++ l ∷ []) old k clause kept at in
     elim (kept.watches k clause pair at at_pair) [
       | inl none ↦ releases.more.stays k (were k clause at (subst (IsActive (trail ++ l ∷ [])) (sym none) (empty-active (trail ++ l ∷ []))))
       | inr both ↦
           let w = IsWatching-pop trail clause pair l both.0 in
+          let formed_clause : IsClause f.vars clause = All-at (IsClause f.vars) f.clauses k clause formed.each at in
           elim (dec-of pair l) [
             | inl of ↦
+                let has_l : Contains clause l = both.0.has l of in
                 let (entry, listed, is) = both.1 l of in
+                let (other, at_other, beside) = kept.entries l entry (over-in f.vars clause l formed_clause has_l) listed in
+                let same : other ≡ clause = one-at f.clauses k other clause (subst (λ (n : ℕ). slice_get f.clauses n ≡ Some other) is at_other) at in
                 subst (λ (n : ℕ). has new.pending n ≡ true) is
-                (releases.woken entry pair listed (subst (λ (n : ℕ). slice_get old.pairs n ≡ Some pair) (sym is) at_pair) (active-MayWake trail clause pair front w active))
-            | inr none ↦ releases.more.stays k (were k clause at (is-active f.vars trail clause pair l (All-at (IsClause f.vars) f.clauses k clause formed.each at) apart w none active))
+                (releases.woken entry listed (active-MayWake trail clause l entry.blocker apart has_l (subst (λ (c : List Literal). Contains c entry.blocker) same beside) active))
+            | inr none ↦ releases.more.stays k (were k clause at (is-active f.vars trail clause pair l formed_clause apart w none active))
           ]
     ]
 
@@ -153,13 +157,8 @@ pending-freed f trail old new l formed apart front kept releases were k clause a
 pub readable : (f : Formula) (trail : List Literal) (t : Tables) (l : Literal) → IsFormula f → IsKept f trail t → IsOver f.vars l → AreReadable f.vars t l
 readable f trail t l formed kept over entry listed =
     let (clause, at, blocker) = kept.entries l entry over listed in
-    let (pair, at_pair) = pair-at f trail t entry.clause clause kept at in
     let is : IsClause f.vars clause = All-at (IsClause f.vars) f.clauses entry.clause clause formed.each at in
-    let both = overs clause pair is blocker (kept.watches entry.clause clause pair at at_pair) in
-    (omega (arith, kept.room, slice_get_within f.clauses entry.clause clause at), pair, at_pair, both.0, both.1) where
-      overs : (clause : List Literal) (pair : Pair) → IsClause f.vars clause → Contains clause entry.blocker → (clause ≡ []) ⊎ (IsWatching trail clause pair × IsListed t.lists entry.clause pair) → IsOver f.vars pair.first × IsOver f.vars pair.second
-      overs clause pair is blocker (inl none) = absurd (nonempty clause entry.blocker blocker none)
-      overs clause pair is blocker (inr both) = (over-in f.vars clause pair.first is (both.0.has pair.first (inl refl)), over-in f.vars clause pair.second is (both.0.has pair.second (inr refl)))
+    (omega (arith, kept.room, slice_get_within f.clauses entry.clause clause at), over-in f.vars clause entry.blocker is blocker)
 
 pub IsMore-same : (s : List Bool) → IsMore s s
 IsMore-same s = record { sized = refl; stays = λ k there. there }

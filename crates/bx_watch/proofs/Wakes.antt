@@ -184,15 +184,13 @@ is-active vars trail clause pair l is apart w none active = elim (lit-eq pair.fi
   later : (m : Literal) → IsOf pair m → (Contains trail m → ⊥) → Contains (trail ++ l ∷ []) m → ⊥
   later m of isnt holds = elim (Contains-push_cases trail l m holds) [ inl before ↦ isnt before | inr here ↦ none (subst (IsOf pair) (sym here) of) ]
 
--- an active clause has a false watch, or watches one literal
-pub active-MayWake : (trail clause : List Literal) (pair : Pair) → AreApart trail → IsWatching trail clause pair → IsActive trail clause → MayWake trail pair
-active-MayWake trail clause pair apart w active = elim (lit-eq pair.first pair.second) [
-  | inl same ↦ inl same
-  | inr differ ↦
-      let s = shape trail clause pair apart w differ active in
-      let fails : IsFalse trail s.x = contains-at trail s.place (negated s.x) s.stands in
-      inr (which s.x s.y s.two fails)
-] where
-  which : (x y : Literal) → AreTwo pair x y → IsFalse trail x → IsFalse trail pair.first ⊎ IsFalse trail pair.second
-  which x y (inl two) fails = inl (subst (IsFalse trail) two.0 fails)
-  which x y (inr two) fails = inr (subst (IsFalse trail) two.0 fails)
+-- of an active clause with a literal that was freed, any other literal is false
+pub active-MayWake : (trail clause : List Literal) (l : Literal) (blocker : Literal) → AreApart (trail ++ l ∷ []) → Contains clause l → Contains clause blocker → IsActive trail clause → MayWake trail l blocker
+active-MayWake trail clause l blocker apart has beside (inl fails) = inr (All-contains (IsFalse trail) clause blocker fails beside)
+active-MayWake trail clause l blocker apart has beside (inr (u, unit)) = elim (left_or_false trail clause u blocker unit.0 beside) [
+  | inl same ↦ elim (left_or_false trail clause u l unit.0 has) [
+    | inl this ↦ inl (sym same ∙ this)
+    | inr fails ↦ absurd (never_both (trail ++ l ∷ []) l apart (Contains-push trail l) (Contains-append_left trail (l ∷ []) (negated l) fails))
+  ]
+  | inr fails ↦ inr fails
+]

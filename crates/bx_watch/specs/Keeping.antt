@@ -91,21 +91,22 @@ pub record Falsifies (f : Formula) (trail : List Literal) (l : Literal) (old new
   pub more : IsMore old.pending new.pending
   pub settled : (k : ℕ) → IsSettled f trail l new k
 
--- a clause of one literal, or one of which a watch is false, may be active
-abbrev pub MayWake : List Literal → Pair → Type 0
-MayWake trail pair = (pair.first ≡ pair.second) ⊎ (IsFalse trail pair.first ⊎ IsFalse trail pair.second)
+-- A clause of a literal that isn't false may be active: the literal beside it is that one, or it is false.
+abbrev pub MayWake : List Literal → Literal → Literal → Type 0
+MayWake trail l blocker = (blocker ≡ l) ⊎ IsFalse trail blocker
 
 -- what is read where the list of a literal is gone through
 abbrev pub AreReadable : ℕ → Tables → Literal → Type 0
 AreReadable vars t l = (entry : Entry) → Contains (list_of t.lists l) entry
-    → (entry.clause < length t.pending) × (pair : Pair) × (slice_get t.pairs entry.clause ≡ Some pair) × IsOver vars pair.first × IsOver vars pair.second
+    → (entry.clause < length t.pending) × IsOver vars entry.blocker
 
 -- the clauses in the list of a literal that may be active were put into the set
 pub record Releases (trail : List Literal) (l : Literal) (old new : Tables) : Type 0 where
   pub lists_stay : new.lists ≡ old.lists
   pub pairs_stay : new.pairs ≡ old.pairs
   pub more : IsMore old.pending new.pending
-  pub woken : (entry : Entry) (pair : Pair) → Contains (list_of old.lists l) entry → slice_get old.pairs entry.clause ≡ Some pair → MayWake trail pair → has new.pending entry.clause ≡ true
+  pub woken : (entry : Entry) → Contains (list_of old.lists l) entry → MayWake trail l entry.blocker
+      → has new.pending entry.clause ≡ true
 
 -- the set was cleaned
 pub record Cleans (f : Formula) (trail : List Literal) (old new : Tables) : Type 0 where

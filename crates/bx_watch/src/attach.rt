@@ -11,6 +11,7 @@ ghost use Rattle.bx_watch.specs.Lists.{place};
 ghost use Rattle.bx_watch.specs.Watches.{IsWatching, IsOrdered, IsChosen};
 ghost use Rattle.bx_watch.specs.Keeping.{tables_of, IsReady, IsMore, Enters, up_to};
 
+use crate::growth::push_tight;
 use crate::lists::Entry;
 use crate::reading::read;
 use crate::store::Store;
@@ -36,12 +37,13 @@ impl Watches {
         requires trail { IsTrail trail.now }
         requires one_size { trail.now.vars ≡ store.now.vars }
         requires ready { IsReady (up_to number store.now) trail.now.literals (tables_of self.old) }
-        ensures { OnOk result (IsReady (up_to (number + 1) store.now) trail.now.literals (tables_of self.new)) }
+        ensures { OnOk result (IsReady (up_to (number + 1) store.now) trail.now.literals
+            (tables_of self.new)) }
     {
         let literals = store.clause(number);
         let pair = chosen(literals, trail);
         self.enter(number, literals, &pair)?;
-        self.pairs.push(pair)?;
+        push_tight(&mut self.pairs, pair)?;
         self.pending.grow()?;
         self.wake(number, literals, trail);
         Ok(())
@@ -51,7 +53,8 @@ impl Watches {
     fn enter(&mut self, clause: u32, literals: &[Lit], pair: &Pair) -> Result<(), NoMemory>
         requires first { (literals.now ≡ [] → ⊥) → place pair.now.first < length self.old.lists }
         requires second { (literals.now ≡ [] → ⊥) → place pair.now.second < length self.old.lists }
-        ensures lists { OnOk result (Enters self.old.lists self.new.lists clause literals.now pair.now) }
+        ensures lists { OnOk result (Enters self.old.lists self.new.lists clause
+            literals.now pair.now) }
         ensures pairs { self.new.pairs ≡ self.old.pairs }
         ensures pending { self.new.pending ≡ self.old.pending }
     {
@@ -76,7 +79,8 @@ impl Watches {
         ensures lists { self.new.lists ≡ self.old.lists }
         ensures pairs { self.new.pairs ≡ self.old.pairs }
         ensures more { IsMore self.old.pending self.new.pending }
-        ensures active { IsActive trail.now.literals literals.now → has self.new.pending number ≡ true }
+        ensures active { IsActive trail.now.literals literals.now
+            → has self.new.pending number ≡ true }
     {
         if !read(literals, trail).is_other() {
             self.pending.insert(number);
@@ -147,7 +151,8 @@ impl Pair {
         requires second_over { IsOver trail.now.vars self.second }
         requires not_first { self.first ≡ lit → ⊥ }
         requires not_second { self.second ≡ lit → ⊥ }
-        ensures { (front : List Literal) → IsChosen trail.now.literals front self → IsChosen trail.now.literals (front ++ lit ∷ []) result }
+        ensures { (front : List Literal) → IsChosen trail.now.literals front self
+            → IsChosen trail.now.literals (front ++ lit ∷ []) result }
     {
         if trail.outlasts(self.second, lit) {
             self

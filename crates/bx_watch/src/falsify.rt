@@ -29,7 +29,8 @@ impl Watches {
         requires formed { IsFormula store.now }
         requires one_size { trail.now.vars ≡ store.now.vars }
         requires kept { IsKept store.now trail.now.literals (tables_of self.old) }
-        ensures { OnOk result (Falsifies store.now trail.now.literals lit (tables_of self.old) (tables_of self.new)) }
+        ensures { OnOk result (Falsifies store.now trail.now.literals lit
+            (tables_of self.old) (tables_of self.new)) }
     {
         let mut at = 0;
         while at < self.lists.len(lit) {
@@ -49,8 +50,10 @@ impl Watches {
         requires one_size { trail.now.vars ≡ store.now.vars }
         requires kept { IsKept store.now trail.now.literals (tables_of self.old) }
         requires within { at < length (list_of self.old.lists lit) }
-        ensures { IfOk result (λ stays. (entry : Item) → slice_get (list_of self.old.lists lit) at ≡ Some entry
-            → Visits store.now trail.now.literals lit entry.clause (tables_of self.old) (tables_of self.new) stays) }
+        ensures { IfOk result (λ stays. (entry : Item)
+            → slice_get (list_of self.old.lists lit) at ≡ Some entry
+            → Visits store.now trail.now.literals lit entry.clause
+            (tables_of self.old) (tables_of self.new) stays) }
     {
         let entry = self.lists.entry(lit, at);
         if trail.is_true(entry.blocker) {
@@ -77,9 +80,12 @@ impl Watches {
         requires one_size { trail.now.vars ≡ store.now.vars }
         requires kept { IsKept store.now trail.now.literals (tables_of self.old) }
         requires within { clause < length store.now.clauses }
-        requires has_other { (literals : List Literal) → slice_get store.now.clauses clause ≡ Some literals → Contains literals other }
-        requires watched { (pair : Two) → slice_get self.old.pairs.items clause ≡ Some pair → HasOther pair lit (Some other) }
-        ensures { IfOk result (Visits store.now trail.now.literals lit clause (tables_of self.old) (tables_of self.new)) }
+        requires has_other { (literals : List Literal)
+            → slice_get store.now.clauses clause ≡ Some literals → Contains literals other }
+        requires watched { (pair : Two) → slice_get self.old.pairs.items clause ≡ Some pair
+            → HasOther pair lit (Some other) }
+        ensures { IfOk result (Visits store.now trail.now.literals lit clause
+            (tables_of self.old) (tables_of self.new)) }
     {
         if trail.is_true(other) {
             return Ok(true);
@@ -102,7 +108,8 @@ impl Watches {
 // The first literal of a clause that it doesn't watch and that isn't false.
 fn spare(literals: &[Lit], pair: &Pair, trail: &Trail) -> Option<Lit>
     requires { IsClause trail.now.vars literals.now }
-    ensures some { IfSome result (λ l. Contains literals.now l × (IsOf pair.now l → ⊥) × (IsFalse trail.now.literals l → ⊥)) }
+    ensures some { IfSome result (λ l. Contains literals.now l × (IsOf pair.now l → ⊥)
+        × (IsFalse trail.now.literals l → ⊥)) }
     ensures none { result ≡ None → OthersFail trail.now.literals literals.now pair.now }
 {
     for lit in literals {

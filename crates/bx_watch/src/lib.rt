@@ -11,6 +11,7 @@ mod active;
 mod attach;
 mod clean;
 mod falsify;
+mod growth;
 pub mod laws;
 mod lists;
 mod reading;

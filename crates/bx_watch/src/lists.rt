@@ -1,8 +1,9 @@
 //! For each literal the clauses that watch it. A list is made at the size that was counted for it, and
-//! grows only where clauses that watch another literal now come to it.
+//! grows only where clauses that watch another literal now come to it, or that were learned.
 ghost use Rattle.std.specs.Prelude.{◌≡◌, ◌<◌, IfOk, OnOk, length, slice_get, Some};
 ghost use Rattle.bx_watch.specs.Lists.{place, list_of, IsEmptyFor, Pushes, Drops};
 
+use crate::growth::push_tight;
 use bx_cnf::Lit;
 use bx_logic::NoMemory;
 use std::alloc::Global;
@@ -76,7 +77,7 @@ impl Lists {
         ensures { OnOk result (Pushes self.old self.new lit entry) }
     {
         let list = &mut self.lists[place(lit)];
-        list.push(entry)?;
+        push_tight(list, entry)?;
         Ok(())
     }
 

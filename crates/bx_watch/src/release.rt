@@ -1,12 +1,13 @@
-//! A literal that was true is free again: a clause that watches it may be active, if its other watch is
-//! false. No list changes, since what a clause watches was right before the literal was assigned.
+//! A literal that was true is free again: a clause that watches it may be active where the literal beside
+//! its entry is false. While that one isn't, the clause has two literals that aren't false, and none of it
+//! is read. No list changes, since what a clause watches was right before the literal was assigned.
 ghost use Rattle.std.specs.Prelude.{◌≡◌, ◌<◌, false, length};
 ghost use Rattle.bx_watch.specs.Watching.{IsOver};
 ghost use Rattle.bx_watch.specs.Lists.{place};
 ghost use Rattle.bx_watch.specs.Keeping.{tables_of, AreReadable, MayWake, Releases};
 
 use crate::trail::Trail;
-use crate::watches::{Pair, Watches};
+use crate::watches::{Watches, is_one};
 use bx_cnf::Lit;
 
 impl Watches {
@@ -17,19 +18,18 @@ impl Watches {
         ensures { Releases trail.now.literals lit (tables_of self.old) (tables_of self.new) }
     {
         for at in 0..self.lists.len(lit) {
-            let clause = self.lists.entry(lit, at).clause;
-            if may_wake(&self.pairs[clause as usize], trail) {
-                self.pending.insert(clause);
+            let item = self.lists.entry(lit, at);
+            if may_wake(item.blocker, lit, trail) {
+                self.pending.insert(item.clause);
             }
         }
     }
 }
 
-// Whether a clause that watches these may be active where one of them was freed.
-fn may_wake(pair: &Pair, trail: &Trail) -> bool
-    requires first { IsOver trail.now.vars pair.now.first }
-    requires second { IsOver trail.now.vars pair.now.second }
-    ensures { result ≡ false → MayWake trail.now.literals pair.now → ⊥ }
+// Whether a clause may be active in which this literal stands beside one that was freed.
+fn may_wake(blocker: Lit, lit: Lit, trail: &Trail) -> bool
+    requires { IsOver trail.now.vars blocker }
+    ensures { result ≡ false → MayWake trail.now.literals lit blocker → ⊥ }
 {
-    pair.is_single() || trail.is_false(pair.first) || trail.is_false(pair.second)
+    is_one(blocker, lit) || trail.is_false(blocker)
 }

@@ -21,10 +21,18 @@ impl<'a> Model for Store<'a> {
 
     ghost Value = { Formula };
 
-    ghost view = { λ s. record { vars = s.formula.now.vars; clauses = s.formula.now.clauses ++ s.learned.clauses } };
+    ghost view = { λ s. record {
+      vars = s.formula.now.vars;
+      clauses = s.formula.now.clauses
+          ++ s.learned.clauses;
+    } };
 
     ghost invariant = { λ s.
-        IsFormula (record { vars = s.formula.now.vars; clauses = s.formula.now.clauses ++ s.learned.clauses }) × (s.learned.vars ≡ s.formula.now.vars) };
+        IsFormula (record {
+          vars = s.formula.now.vars;
+          clauses = s.formula.now.clauses
+              ++ s.learned.clauses;
+        }) × (s.learned.vars ≡ s.formula.now.vars) };
 }
 
 impl<'a> Store<'a> {
@@ -44,7 +52,8 @@ impl<'a> Store<'a> {
     pub(crate) fn push(&mut self, literals: &[Lit]) -> Result<(), NoMemory>
         requires clause { IsClause self.old.vars literals.now }
         requires room { length self.old.clauses < 4294967295 }
-        ensures pushed { OnOk result (self.new ≡ record self.old { clauses = self.old.clauses ++ literals.now ∷ [] }) }
+        ensures pushed { OnOk result (self.new
+            ≡ record self.old { clauses = self.old.clauses ++ literals.now ∷ [] }) }
         ensures formed { OnOk result (IsFormula self.new) }
     {
         self.learned.push(literals)?;

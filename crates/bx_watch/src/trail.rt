@@ -28,8 +28,10 @@ impl Model for Trail {
 
     ghost view = { λ t. record { vars = length t.values.items; literals = t.literals.items } };
 
-    ghost invariant = { λ t. IsTrail (record { vars = length t.values.items; literals = t.literals.items })
-        × AreValues (length t.values.items) t.values.items t.literals.items × ArePlaces (length t.values.items) t.places.items t.literals.items };
+    ghost invariant = { λ t.
+        IsTrail (record { vars = length t.values.items; literals = t.literals.items })
+        × AreValues (length t.values.items) t.values.items t.literals.items
+        × ArePlaces (length t.values.items) t.places.items t.literals.items };
 }
 
 impl Trail {
@@ -56,7 +58,8 @@ impl Trail {
     pub(crate) fn push(&mut self, lit: Lit) -> Result<(), NoMemory>
         requires over { IsOver self.old.vars lit }
         requires is_free { IsFree self.old.literals lit }
-        ensures { OnOk result (self.new ≡ record self.old { literals = self.old.literals ++ lit ∷ [] }) }
+        ensures { OnOk result (self.new
+            ≡ record self.old { literals = self.old.literals ++ lit ∷ [] }) }
     {
         let place = self.literals.len();
         self.literals.push(lit)?;

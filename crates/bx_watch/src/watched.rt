@@ -43,7 +43,8 @@ impl<'a> Model for Watched<'a> {
 impl<'a> Watched<'a> {
     /// These clauses, with no variable assigned.
     pub fn new(alloc: Global, clauses: &'a Clauses) -> Result<Self, NoMemory>
-        ensures value { IfOk result (λ w. w ≡ record { vars = clauses.now.vars; clauses = clauses.now.clauses; trail = [] }) }
+        ensures value { IfOk result (λ w. w
+            ≡ record { vars = clauses.now.vars; clauses = clauses.now.clauses; trail = [] }) }
         ensures formed { IfOk result IsWatch }
     {
         let store = Store::new(alloc, clauses);
@@ -66,7 +67,8 @@ impl<'a> Watched<'a> {
     pub fn assigned(&mut self, lit: Lit) -> Result<(), NoMemory>
         requires over { IsOver self.old.vars lit }
         requires is_free { IsFree self.old.trail lit }
-        ensures ok { OnOk result (self.new ≡ record self.old { trail = self.old.trail ++ lit ∷ [] }) }
+        ensures ok { OnOk result (self.new
+            ≡ record self.old { trail = self.old.trail ++ lit ∷ [] }) }
     {
         if !self.whole {
             return Err(NoMemory);
@@ -106,7 +108,8 @@ impl<'a> Watched<'a> {
     pub fn add(&mut self, literals: &[Lit]) -> Result<(), NoMemory>
         requires clause { IsClause self.old.vars literals.now }
         requires room { length self.old.clauses < 4294967295 }
-        ensures ok { OnOk result (self.new ≡ record self.old { clauses = self.old.clauses ++ literals.now ∷ [] }) }
+        ensures ok { OnOk result (self.new
+            ≡ record self.old { clauses = self.old.clauses ++ literals.now ∷ [] }) }
     {
         if !self.whole {
             return Err(NoMemory);

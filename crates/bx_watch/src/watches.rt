@@ -54,13 +54,6 @@ impl Pair {
     {
         self.first == lit || self.second == lit
     }
-
-    /// Whether both are one literal.
-    pub(crate) fn is_single(&self) -> bool
-        ensures { result ≡ false → self.now.first ≡ self.now.second → ⊥ }
-    {
-        is_one(self.first, self.second)
-    }
 }
 
 impl Watches {

@@ -1,5 +1,5 @@
 use Rattle.std.proofs.Common.{◌∙◌, ◌-◌, ◌^◌, Bool, List, ℕ, ap, arith, rules}
-use Rattle.bx_queue.specs.Stamps.{place_after, stamped}
+use Rattle.bx_queue.specs.Stamps.{place_after, stamping}
 use Rattle.std.proofs.lemmas.List.{take_at}
 use Rattle.bx_queue.proofs.Places.{variable-inside, room-moved, length-moved, searched-written}
 use Rattle.bx_queue.proofs.queue.MoveFront.to_front.Goals as goal
@@ -26,5 +26,5 @@ invariant_of-self c =
     searched-written _ _ _ _ _ c.args.var c.first.result c.index-above.result.now _ _ _ c.self.invariant (variable-inside _ _ _ c.args.var c.self.view_is c.requires)
     c.move_to_front.ensures c.first.ensures c.index-above.ensures
     (take_at c.stamp_first.new.stamps _ c.self.inside.stamps.len (search (rules, c.stamp_first.auto.stamps))
-    ∙ (c.stamp_first.ensures ∙ ap (λ (s : List ℕ). stamped (2 ^ 32 - 1) c.move_to_front.new.self s c.args.var c.index-above.result.now) c.deref_mut.ensures.value))
+    ∙ (c.stamp_first.ensures ∙ ap (λ (s : List ℕ). stamping (2 ^ 32 - 1) c.move_to_front.new.self s c.args.var c.index-above.result.now) c.deref_mut.ensures.value))
     (c.place_after-self-inside.ensures ∙ ap (λ (t : List Bool). place_after c.self.inside.ring t c.self.inside.place c.args.var) c.deref.ensures.value)

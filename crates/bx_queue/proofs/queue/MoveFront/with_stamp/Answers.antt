@@ -1,7 +1,7 @@
 use Rattle.std.proofs.Common.{◌∙◌, ap, arith, rules}
 use Rattle.std.proofs.lemmas.List.{take_at}
 use Rattle.std.proofs.lemmas.List.FromFn.{length-range_with_len}
-use Rattle.bx_queue.specs.Stamps.{numbered}
+use Rattle.bx_queue.specs.Stamps.{numbering}
 use Rattle.bx_queue.proofs.Orders.{IsQueue-first}
 use Rattle.bx_queue.proofs.Rings.{AllBelow-more}
 use Rattle.bx_queue.proofs.Places.{searched-made}
@@ -16,7 +16,7 @@ number-requires-clause-enough c = rw c.in_ok-ring.ensures (omega (arith, length-
 pub invariant_of-result : goal.invariant_of-result
 invariant_of-result c =
     searched-made c.args.vars c.args.stamp _ _ _ c.in_ok-stamps.stamps.items _ c.requires (search rules) c.in_ok-ring.ensures (c.in_ok-taken.ensures.items_if_clones_equal (λ y e. e)) (c.in_ok-stamps.ensures.items_if_clones_equal (λ y e. e))
-    (take_at c.number.new.stamps _ c.in_ok-stamps.stamps.len (search (rules, c.number.auto.stamps)) ∙ (c.number.ensures ∙ ap (numbered c.in_ok-ring.ring c.args.stamp) c.deref_mut.ensures.value))
+    (take_at c.number.new.stamps _ c.in_ok-stamps.stamps.len (search (rules, c.number.auto.stamps)) ∙ (c.number.ensures ∙ ap (numbering c.in_ok-ring.ring c.args.stamp) c.deref_mut.ensures.value))
     c.first-place.ensures
 
 pub returns-clause-queue : goal.returns-clause-queue

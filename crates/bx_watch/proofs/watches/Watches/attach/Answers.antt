@@ -24,7 +24,7 @@ returns c =
     let pair = c.chosen-pair.result in
     let grows : Grows old.pending c.grow.new.self = subst (λ (s : List Bool). Grows s c.grow.new.self) c.enter.ensures.pending c.in_ok-grow.ensures.ok in
     let pairs : c.wake.new.self.pairs.items ≡ old.pairs ++ pair ∷ [] =
-    ap (λ v. v.items) c.wake.ensures.pairs ∙ (c.in_ok-push.ensures.items ∙ ap (λ v. v.items ++ pair ∷ []) c.enter.ensures.pairs) in
+    ap (λ v. v.items) c.wake.ensures.pairs ∙ (c.in_ok-push_tight.ensures ∙ ap (λ v. v.items ++ pair ∷ []) c.enter.ensures.pairs) in
     ready-with (up_to (c.args.number + 1) c.args.store.now) c.args.trail.now.literals (record { lists = c.enter.new.self.lists; pairs = old.pairs ++ pair ∷ []; pending = c.wake.new.self.pending }) (tables_of c.wake.new.self)
     (attached-at c.args.store.now c.args.number c.clause-literals.result.now c.args.trail.now.literals pair old c.enter.new.self.lists c.grow.new.self c.wake.new.self.pending c.clause-literals.ensures.value c.requires.ready
     c.chosen-pair.ensures c.in_ok-enter.ensures.lists grows c.wake.ensures.more c.wake.ensures.active)

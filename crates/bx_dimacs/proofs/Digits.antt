@@ -1,11 +1,14 @@
 -- The numbers that digits spell, byte by byte.
-use Rattle.std.proofs.Common.{◌≡◌, ℕ, ◌+◌, ◌-◌, ◌*◌, ◌^◌, ◌<◌, ◌≤◌, Bool, true, false, cond, List, [], ◌∷◌, length, drop, get_or, Option, Some, None, refl, sym, ◌∙◌, ap, subst, inl, inr, arith}
+use Rattle.std.proofs.Common.{◌≡◌, ℕ, ◌+◌, ◌-◌, ◌*◌, ◌^◌, ◌<◌, ◌≤◌, Bool, true, false, cond, List, [], ◌∷◌, length, drop, get_or, rules, Option, Some, None, refl, sym, ◌∙◌, ap, subst, inl, inr, arith}
 use Rattle.std.specs.Char.{is_ascii_digit}
 use Rattle.std.specs.Prelude.{codes}
+use Rattle.std.specs.List.{list_all}
+use Rattle.std.specs.Str.Parse.{digits_value}
+use Rattle.std.proofs.lemmas.Str.Parse.{IsDigitsTest, IsNumeralModel, numerals_by_value}
 use Rattle.std.proofs.lemmas.Bool.{cases_lt, le-ltb, lt-ltb}
 use Rattle.std.proofs.lemmas.List.{drop_more, drop_all}
 use Rattle.bx_dimacs.specs.Words.{digits_behind, below, number_of}
-use Rattle.bx_dimacs.specs.FormulaTexts.{declared, headed, header_of}
+use Rattle.bx_dimacs.specs.FormulaTexts.{empty_text_of, empty_text, header_of}
 
 -- a number only grows with more digits
 pub digits_past : (limit n : ℕ) (bs : List ℕ) → limit ≤ n → below limit (digits_behind n bs) ≡ None
@@ -25,6 +28,13 @@ pub digits_stop : (word : List ℕ) (n k b : ℕ) → k < length word → b ≡ 
 digits_stop word n k b within is digit =
     let P : ℕ → Type 0 = λ c. is_ascii_digit c ≡ false → digits_behind n (drop k word) ≡ None in
     subst P (sym is) (λ no. ap (digits_behind n) (drop_more word k 0 within) ∙ ap (λ t. cond t (digits_behind (10 * n + (get_or word k 0 - 48)) (drop (k + 1) word)) None) no) digit
+
+-- digits, as the library tests them
+are_told : IsDigitsTest (λ ds. list_all is_ascii_digit ds ≡ true)
+are_told = search rules
+
+pub model : IsNumeralModel (λ ds. list_all is_ascii_digit ds ≡ true) (digits_value 10)
+model = numerals_by_value (λ ds. list_all is_ascii_digit ds ≡ true) are_told
 
 -- the number of a word, by its digits
 pub number_by : (bits : ℕ) (word : List ℕ) (found : Option ℕ) → 0 < length word → below (2 ^ bits) (digits_behind 0 word) ≡ found → number_of bits word ≡ found
@@ -56,16 +66,16 @@ number_fewer [] = refl
 number_fewer (b ∷ bs) = fewer (digits_behind 0 (b ∷ bs))
 
 -- a header of four words
-pub header_four : (line behind_p behind_cnf behind_vars rest : List (List ℕ)) (vars count : List ℕ) → line ≡ codes "p" ∷ behind_p → behind_p ≡ codes "cnf" ∷ behind_cnf → behind_cnf ≡ vars ∷ behind_vars → behind_vars ≡ count ∷ rest → rest ≡ [] → header_of line ≡ declared (number_of 31 vars) (number_of 32 count)
+pub header_four : (line behind_p behind_cnf behind_vars rest : List (List ℕ)) (vars count : List ℕ) → line ≡ codes "p" ∷ behind_p → behind_p ≡ codes "cnf" ∷ behind_cnf → behind_cnf ≡ vars ∷ behind_vars → behind_vars ≡ count ∷ rest → rest ≡ [] → header_of line ≡ empty_text_of (number_of 31 vars) (number_of 32 count)
 header_four line behind_p behind_cnf behind_vars rest vars count a b c d e =
     ap header_of (a ∙ ap (λ ws. codes "p" ∷ ws) (b ∙ ap (λ ws. codes "cnf" ∷ ws) (c ∙ ap (λ ws. vars ∷ ws) (d ∙ ap (λ ws. count ∷ ws) e))))
 
-pub declares_none : (vars count : List ℕ) → number_of 32 vars ≡ None → declared (number_of 31 vars) (number_of 32 count) ≡ None
-declares_none vars count none = ap (λ v. declared v (number_of 32 count)) (number_fewer vars ∙ ap (below (2 ^ 31)) none)
+pub declares_none : (vars count : List ℕ) → number_of 32 vars ≡ None → empty_text_of (number_of 31 vars) (number_of 32 count) ≡ None
+declares_none vars count none = ap (λ v. empty_text_of v (number_of 32 count)) (number_fewer vars ∙ ap (below (2 ^ 31)) none)
 
-pub declares_many : (vars count : List ℕ) (n : ℕ) → number_of 32 vars ≡ Some n → 2147483647 < n → declared (number_of 31 vars) (number_of 32 count) ≡ None
-declares_many vars count n is many = ap (λ v. declared v (number_of 32 count)) (number_fewer vars ∙ ap (below (2 ^ 31)) is ∙ ap (λ t. cond t (Some n) None) (le-ltb n (2 ^ 31) (omega (arith, many))))
+pub declares_many : (vars count : List ℕ) (n : ℕ) → number_of 32 vars ≡ Some n → 2147483647 < n → empty_text_of (number_of 31 vars) (number_of 32 count) ≡ None
+declares_many vars count n is many = ap (λ v. empty_text_of v (number_of 32 count)) (number_fewer vars ∙ ap (below (2 ^ 31)) is ∙ ap (λ t. cond t (Some n) None) (le-ltb n (2 ^ 31) (omega (arith, many))))
 
-pub declares : (vars count : List ℕ) (n k : ℕ) → number_of 32 vars ≡ Some n → n ≤ 2147483647 → number_of 32 count ≡ Some k → declared (number_of 31 vars) (number_of 32 count) ≡ Some (headed n k)
+pub declares : (vars count : List ℕ) (n k : ℕ) → number_of 32 vars ≡ Some n → n ≤ 2147483647 → number_of 32 count ≡ Some k → empty_text_of (number_of 31 vars) (number_of 32 count) ≡ Some (empty_text n k)
 declares vars count n k is few counts =
-    ap (λ v. declared v (number_of 32 count)) (number_fewer vars ∙ ap (below (2 ^ 31)) is ∙ below_one (2 ^ 31) n (omega (arith, few))) ∙ ap (declared (Some n)) counts
+    ap (λ v. empty_text_of v (number_of 32 count)) (number_fewer vars ∙ ap (below (2 ^ 31)) is ∙ below_one (2 ^ 31) n (omega (arith, few))) ∙ ap (empty_text_of (Some n)) counts

@@ -6,3 +6,5 @@ pub mod Digits
 pub mod Ordering
 pub mod Showing
 pub mod Meaning
+pub mod Stepping
+pub mod Written

@@ -10,6 +10,7 @@ use Rattle.bx_cnf.specs.Formulas.{Formula, IsClauseTrue, AllTrue}
 use Rattle.bx_cnf.proofs.Propagation.{tautology_always}
 use Rattle.bx_dimacs.specs.FormulaTexts.{FormulaText, are_opposite, is_tautology, vars_with, vars_for}
 use Rattle.bx_dimacs.specs.Keeping.{AreDeclared, AreInOrder, own_clause, IsKept, AreKept, Keeps}
+use Rattle.bx_dimacs.proofs.Lists.{all_head, all_tail, all_cons}
 use Rattle.bx_dimacs.proofs.Ordering.{HasOpposites, opposites, one_variable}
 use Rattle.bx_dimacs.proofs.Showing.{vars_more}
 
@@ -34,17 +35,6 @@ tautology_true bits clause is =
 -- a clause is true by one of its literals
 by_literal : (bits : List Bool) (clause : List Literal) (l : Literal) → Contains clause l → IsLiteralTrue bits l → IsClauseTrue bits clause
 by_literal bits clause l has is = (has.0, l, has.1, has.2, is)
-
--- the first of a list, and the others
-all_tail : {X : Type 0} (P : X → Type 0) (x : X) (xs : List X) → All P (x ∷ xs) → All P xs
-all_tail P x xs all k d lt = all (suc k) d (omega (arith, lt))
-
-all_head : {X : Type 0} (P : X → Type 0) (x : X) (xs : List X) → All P (x ∷ xs) → P x
-all_head P x xs all = all zero x (omega arith)
-
-all_cons : {X : Type 0} (P : X → Type 0) (x : X) (xs : List X) → P x → All P xs → All P (x ∷ xs)
-all_cons P x xs here rest zero d lt = here
-all_cons P x xs here rest (suc k) d lt = rest k d (omega (arith, lt))
 
 -- a literal's value is among those of the declared variables
 cut_true : (bits : List Bool) (vars : ℕ) (l : Literal) → (0 < l.var) × (l.var ≤ vars) → IsLiteralTrue bits l → IsLiteralTrue (take vars bits) l

@@ -11,6 +11,7 @@ use Rattle.bx_dimacs.specs.FormulaTexts.{FormulaText, is_tautology, vars_with, v
 use Rattle.bx_dimacs.specs.Keeping.{AreDeclared, AreInOrder, own_clause, IsKept, AreKept, Keeps}
 use Rattle.bx_dimacs.specs.Shown.{Shows, GoesOn}
 use Rattle.bx_dimacs.specs.Words.{signed_of}
+use Rattle.bx_dimacs.proofs.Lists.{all_by}
 
 -- as many clauses are kept
 pub kept_length : (vars : ℕ) (clauses kept : List (List Literal)) → AreKept vars clauses kept → length clauses ≡ length kept
@@ -71,8 +72,6 @@ no_literal reading text l past =
     subst (λ t. GoesOn reading false (cond t (Some (record text { begun = text.begun ++ l ∷ [] })) None)) (sym no) tt
 
 -- the end of a clause: it is kept as it is, or stands for two variables more, or none are left for it
-all_by : (P : Literal → Type 0) (xs ys : List Literal) → ((l : Literal) → Contains xs l → Contains ys l) → All P ys → All P xs
-all_by P xs ys move all k d within = let itself = All-contains_itself xs k d within in All-contains P ys _ all (move _ itself)
 
 -- what a clause in order is of
 pub record IsOrdered (old : Reading) (ordered : List Literal) : Type 0 where

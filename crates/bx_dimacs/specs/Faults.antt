@@ -1,19 +1,14 @@
--- Lines that can't be read are counted from 1.
+-- Lines that can't be read.
 use Rattle.std.specs.Prelude.{◌≡◌, ◌<◌, ℕ, Result, Err, ⊤}
-use Rattle.bx_dimacs.specs.declared.fault.FormulaFault.{FormulaFault}
-use Rattle.bx_dimacs.specs.declared.fault.ProofFault.{ProofFault}
-use Rattle.bx_dimacs.specs.declared.fault.FormulaFault.TheVariants as formula
-use Rattle.bx_dimacs.specs.declared.fault.ProofFault.TheVariants as proof
+use Rattle.bx_dimacs.specs.declared.fault.TextFault.{TextFault}
+use Rattle.bx_dimacs.specs.declared.fault.TextFault.TheVariants.{BadLine, NoMemory}
 
-abbrev pub IsFormulaLine : FormulaFault → Type 0
-IsFormulaLine (formula.BadLine k) = 0 < k
-IsFormulaLine formula.NoMemory = ⊤
+-- lines are counted from 1
+abbrev pub IsLine : TextFault → Type 0
+IsLine (BadLine k) = 0 < k
+IsLine NoMemory = ⊤
 
-abbrev pub IsProofLine : ProofFault → Type 0
-IsProofLine (proof.BadLine k) = 0 < k
-IsProofLine proof.NoMemory = ⊤
-
--- no formula is read where its text is stuck, unless memory was refused
-abbrev pub IsStuckAt : {T : Type 0} → Result T ℕ → FormulaFault → Type 0
-IsStuckAt said (formula.BadLine k) = said ≡ Err k
-IsStuckAt said formula.NoMemory = ⊤
+-- nothing is read of a text that is stuck, unless memory was refused
+abbrev pub IsStuckAt : {T : Type 0} → Result T ℕ → TextFault → Type 0
+IsStuckAt said (BadLine k) = said ≡ Err k
+IsStuckAt said NoMemory = ⊤

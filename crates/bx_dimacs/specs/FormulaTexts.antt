@@ -4,7 +4,7 @@ use Rattle.std.specs.Prelude.{ℕ, zero, suc, ◌+◌, ◌^◌, ◌==◌, ◌&&�
 use Rattle.std.specs.List.{list_any}
 use Rattle.std.specs.Str.{bytes_eq}
 use Rattle.bx_cnf.specs.Literals.{Literal, literal_of}
-use Rattle.bx_dimacs.specs.Words.{Line, lines_from, last_from, number_of, signed_of}
+use Rattle.bx_dimacs.specs.Words.{Line, begins_with, lines_from, last_from, number_of, signed_of}
 
 -- What was read of a formula: how many variables and clauses its header declares, its clauses so far, each as its
 -- literals stand in the text, and the literals of one that has no end yet.
@@ -31,17 +31,18 @@ vars_for vars [] = vars
 vars_for vars (clause ∷ clauses) = vars_for (vars_with vars clause) clauses
 
 -- nothing behind a header that declares so many variables and clauses
-abbrev pub headed : ℕ → ℕ → FormulaText
-headed vars count = record { vars = vars; count = count; clauses = []; begun = [] }
+abbrev pub empty_text : ℕ → ℕ → FormulaText
+empty_text vars count = record { vars = vars; count = count; clauses = []; begun = [] }
 
-abbrev pub declared : Option ℕ → Option ℕ → Option FormulaText
-declared None count = None
-declared (Some vars) None = None
-declared (Some vars) (Some count) = Some (headed vars count)
+abbrev pub empty_text_of : Option ℕ → Option ℕ → Option FormulaText
+empty_text_of None count = None
+empty_text_of (Some vars) None = None
+empty_text_of (Some vars) (Some count) = Some (empty_text vars count)
 
 -- the header: p cnf VARIABLES CLAUSES
 abbrev pub header_of : List (List ℕ) → Option FormulaText
-header_of (p ∷ cnf ∷ vars ∷ count ∷ []) = if bytes_eq p (codes "p") && bytes_eq cnf (codes "cnf") then declared (number_of 31 vars) (number_of 32 count) else None
+header_of (p ∷ cnf ∷ vars ∷ count ∷ []) =
+    if bytes_eq p (codes "p") && bytes_eq cnf (codes "cnf") then empty_text_of (number_of 31 vars) (number_of 32 count) else None
 header_of _ = None
 
 -- there are as many clauses as the header declares
@@ -63,7 +64,7 @@ with_number text (Some (pos zero)) = with_clause text (text.clauses ++ text.begu
 with_number text (Some (pos (suc n))) = with_literal text (literal_of (pos (suc n)))
 with_number text (Some (negsuc n)) = with_literal text (literal_of (negsuc n))
 
--- a word more, where a clause is still to come or to be ended
+-- a word more, where a clause is still to come or to be end_at
 abbrev pub with_word : FormulaText → List ℕ → Option FormulaText
 with_word text word = if is_full text then None else with_number text (signed_of word)
 
@@ -72,24 +73,20 @@ with_words text [] = Some text
 with_words text (word ∷ words) = option_and_then (λ next. with_words next words) (with_word text word)
 
 -- nothing follows from this line on: all clauses must be there, and have their ends
-abbrev pub ended : ℕ → FormulaText → Result FormulaText ℕ
-ended number text = if is_full text && (length text.begun == 0) then Ok text else Err number
-
--- a line that is the end, whatever follows: its first word is %
-abbrev pub is_end : List (List ℕ) → Bool
-is_end [] = false
-is_end (word ∷ words) = bytes_eq word (codes "%")
+abbrev pub end_at : ℕ → FormulaText → Result FormulaText ℕ
+end_at number text = if is_full text && (length text.begun == 0) then Ok text else Err number
 
 -- reading goes on behind the line of this number, or is stuck there
-abbrev pub behind_line : ℕ → Option FormulaText → (FormulaText → Result FormulaText ℕ) → Result FormulaText ℕ
+abbrev pub behind_line : {T : Type 0} → ℕ → Option T → (T → Result T ℕ) → Result T ℕ
 behind_line number None rest = Err number
 behind_line number (Some text) rest = rest text
 
--- the lines behind the header, and the number of the line behind the last
+-- the lines behind the header, up to one that begins with %, and the number of the line behind the last
 abbrev pub read_clauses : FormulaText → List Line → ℕ → Result FormulaText ℕ
-read_clauses text [] last = ended last text
+read_clauses text [] last = end_at last text
 read_clauses text (line ∷ lines) last =
-    if is_end line.1 then ended line.0 text else behind_line line.0 (with_words text line.1) (λ next. read_clauses next lines last)
+    if begins_with (codes "%") line.1 then end_at line.0 text
+    else behind_line line.0 (with_words text line.1) (λ next. read_clauses next lines last)
 
 abbrev pub read_header : List Line → ℕ → Result FormulaText ℕ
 read_header [] last = Err last

@@ -1,9 +1,10 @@
 -- How the clauses of a text are kept in a formula.
-use Rattle.std.specs.Prelude.{◌≡◌, ℕ, ◌+◌, ◌<◌, ◌≤◌, true, List, [], ◌∷◌, All, Contains, ◌↔◌, ⊤}
+use Rattle.std.specs.Prelude.{◌≡◌, ℕ, ◌+◌, ◌<◌, ◌≤◌, true, List, [], ◌∷◌, All, Contains, ◌↔◌, Ok, ⊤}
 use Rattle.std.specs.Bool.{MatchBool}
 use Rattle.bx_cnf.specs.Literals.{Literal}
 use Rattle.bx_cnf.specs.Formulas.{Formula, AscendAbove}
-use Rattle.bx_dimacs.specs.FormulaTexts.{FormulaText, is_tautology, vars_with, vars_for}
+use Rattle.bx_dimacs.specs.declared.formula.DimacsFormula.{DimacsFormula}
+use Rattle.bx_dimacs.specs.FormulaTexts.{FormulaText, is_tautology, vars_with, vars_for, formula_of}
 
 -- the same literals, in the order of their variables, and each once
 pub record AreInOrder (literals ordered : List Literal) : Type 0 where
@@ -34,3 +35,10 @@ pub record Keeps (text : FormulaText) (formula : Formula) : Type 0 where
   pub declared : All (AreDeclared text.vars) text.clauses
   pub vars : formula.vars ≡ vars_for text.vars text.clauses
   pub clauses : AreKept text.vars text.clauses formula.clauses
+
+-- a formula is what bytes say, with as many variables of theirs as they declare
+pub record IsFormulaOf (bytes : List ℕ) (read : DimacsFormula) : Type 0 where
+  pub said : FormulaText
+  pub says : formula_of bytes ≡ Ok said
+  pub vars : read.vars ≡ said.vars
+  pub keeps : Keeps said read.clauses

@@ -1,6 +1,7 @@
 -- The lines of a text, the words of a line, and the numbers that words spell.
-use Rattle.std.specs.Prelude.{ℕ, zero, suc, ◌+◌, ◌-◌, ◌*◌, ◌==◌, ◌^◌, Bool, true, List, [], ◌∷◌, length, map, filter, not, nat_lt, Option, Some, None, option_map, ℤ, pos, negsuc, slice_index, if◌then◌else◌}
+use Rattle.std.specs.Prelude.{ℕ, zero, suc, ◌+◌, ◌-◌, ◌*◌, ◌==◌, ◌^◌, Bool, true, false, List, [], ◌∷◌, length, map, filter, not, nat_lt, Option, Some, None, option_map, ℤ, pos, negsuc, slice_index, if◌then◌else◌}
 use Rattle.std.specs.List.{slice_split, onto_first, enumerate_from}
+use Rattle.std.specs.Str.{bytes_eq}
 use Rattle.std.specs.Char.{is_ascii_digit, is_ascii_whitespace}
 
 -- the lines of a text, without the line feeds that end them; the last may have none
@@ -16,6 +17,11 @@ words_of line = filter (λ part. nat_lt 0 (length part)) (slice_split is_ascii_w
 abbrev pub is_passed_over : List (List ℕ) → Bool
 is_passed_over [] = true
 is_passed_over (word ∷ words) = slice_index word 0 == 99
+
+-- the first word of a line is this one
+abbrev pub begins_with : List ℕ → List (List ℕ) → Bool
+begins_with front [] = false
+begins_with front (word ∷ words) = bytes_eq word front
 
 -- a line as its number and its words
 abbrev pub Line : Type 0

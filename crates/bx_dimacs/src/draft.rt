@@ -1,6 +1,7 @@
 //! A formula that is still being read: unlike those of a store of clauses, its variables can become more.
-ghost use Rattle.std.specs.Prelude.{◌≡◌, ◌++◌, ◌+◌, ◌<◌, ◌≤◌, true, [], ◌∷◌, length, OnOk, OnErr, IfOk};
+ghost use Rattle.std.specs.Prelude.{◌≡◌, ◌++◌, ◌+◌, ◌<◌, ◌≤◌, [], ◌∷◌, length, OnOk, OnErr, IfOk};
 ghost use Rattle.bx_cnf.specs.Formulas.{IsClause, IsFormula};
+ghost use Rattle.bx_dimacs.specs.Keeping.{own_clause};
 
 use bx_cnf::{Clauses, Flat, Lit};
 use bx_logic::NoMemory;
@@ -59,7 +60,8 @@ impl Draft {
     pub(crate) fn push(&mut self, literals: &[Lit]) -> Result<(), NoMemory>
         requires clause { IsClause self.old.vars literals.now }
         requires room { length self.old.clauses < 4294967295 }
-        ensures ok { OnOk result (self.new ≡ record self.old { clauses = self.old.clauses ++ literals.now ∷ [] }) }
+        ensures ok { OnOk result (self.new
+            ≡ record self.old { clauses = self.old.clauses ++ literals.now ∷ [] }) }
         ensures err { OnErr result (self.new ≡ self.old) }
     {
         self.clauses.push(literals)
@@ -75,7 +77,7 @@ impl Draft {
         requires room { length self.old.clauses < 4294967295 }
         ensures ok { OnOk result (self.new ≡ record {
           vars = self.old.vars + 2;
-          clauses = self.old.clauses ++ (record { var = self.old.vars + 1; positive = true } ∷ record { var = self.old.vars + 2; positive = true } ∷ []) ∷ [];
+          clauses = self.old.clauses ++ own_clause self.old.vars ∷ [];
         }) }
         ensures err { OnErr result (self.new ≡ self.old) }
     {

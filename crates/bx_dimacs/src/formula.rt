@@ -4,11 +4,12 @@ ghost use Rattle.std.specs.Prelude.{◌^◌, ◌+◌, ◌<◌, ◌≤◌, ◌⊎
 ghost use Rattle.bx_cnf.specs.Formulas.{IsFormula};
 ghost use Rattle.bx_cnf.specs.Literals.{literal_of as literal_in};
 ghost use Rattle.bx_dimacs.specs.Words.{words_of, number_of as number_in};
-ghost use Rattle.bx_dimacs.specs.FormulaTexts.{FormulaText, formula_of, header_behind, clauses_behind, header_of as header_in, headed, with_words, with_word, with_number, with_literal, ended, is_full as is_whole};
-ghost use Rattle.bx_dimacs.specs.Keeping.{Keeps};
-ghost use Rattle.bx_dimacs.specs.Faults.{IsFormulaLine, IsStuckAt};
+ghost use Rattle.bx_dimacs.specs.FormulaTexts.{FormulaText, formula_of, empty_text, header_of as header_in, is_full as is_whole};
+ghost use Rattle.bx_dimacs.specs.FormulaTexts.{with_literal, with_number, with_word, with_words, end_at, clauses_behind, header_behind};
+ghost use Rattle.bx_dimacs.specs.Keeping.{IsFormulaOf};
+ghost use Rattle.bx_dimacs.specs.Faults.{IsLine, IsStuckAt};
 
-use crate::FormulaFault;
+use crate::TextFault;
 use crate::draft::Draft;
 use crate::literals::{literal_of, put_in_order};
 use crate::scan::{Lines, behind_word, number_of, signed_of, word_at};
@@ -34,16 +35,16 @@ pub struct DimacsFormula {
 /// # Errors
 ///
 /// The first line that can't be read, or `NoMemory`.
-pub fn read_formula(alloc: Global, text: &[u8]) -> Result<DimacsFormula, FormulaFault>
+pub fn read_formula(alloc: Global, text: &[u8]) -> Result<DimacsFormula, TextFault>
     // It keeps what the text says, as it declares it.
-    ensures said { IfOk result (λ read. (said : FormulaText) × (formula_of text.now ≡ Ok said) × (read.vars ≡ said.vars) × Keeps said read.clauses) }
+    ensures said { IfOk result (IsFormulaOf text.now) }
     // It is refused where the text is stuck, and that line is told.
     ensures stuck { IfErr result (IsStuckAt (formula_of text.now)) }
     // What is read is a formula, over the declared variables and maybe more.
     ensures formed { IfOk result (λ read. IsFormula read.clauses) }
     ensures declared { IfOk result (λ read. read.vars ≤ read.clauses.vars) }
     // Lines are counted from 1.
-    ensures counted { (k : ℕ) → result ≡ Err (FormulaFault.BadLine k) → 0 < k }
+    ensures counted { (k : ℕ) → result ≡ Err (TextFault.BadLine k) → 0 < k }
 {
     let mut lines = Lines::new(text);
     let header = read_header(&mut lines)?;
@@ -61,24 +62,26 @@ struct Header {
 }
 
 // Reads the header, the first line that is no comment.
-fn read_header(lines: &mut Lines) -> Result<Header, FormulaFault>
+fn read_header(lines: &mut Lines) -> Result<Header, TextFault>
     ensures said { IfOk result (λ header. header_behind lines.old.number lines.old.rest.now
-        ≡ clauses_behind (headed header.vars header.clauses) lines.new.number lines.new.rest.now) }
+        ≡ clauses_behind (empty_text header.vars header.clauses)
+        lines.new.number lines.new.rest.now) }
     ensures stuck { IfErr result (IsStuckAt (header_behind lines.old.number lines.old.rest.now)) }
-    ensures counted { IfErr result IsFormulaLine }
+    ensures counted { IfErr result IsLine }
 {
     let Some(line) = lines.next() else {
-        return Err(FormulaFault::BadLine(lines.next_number()));
+        return Err(TextFault::BadLine(lines.next_number()));
     };
     match header_of(line) {
         Some(header) => Ok(header),
-        None => Err(FormulaFault::BadLine(lines.number())),
+        None => Err(TextFault::BadLine(lines.number())),
     }
 }
 
 // The header that a line is.
 fn header_of(line: &[u8]) -> Option<Header>
-    ensures { option_map (λ header. headed header.vars header.clauses) result ≡ header_in (words_of line.now) }
+    ensures { option_map (λ header. empty_text header.vars header.clauses) result
+        ≡ header_in (words_of line.now) }
 {
     let rest = behind_word(line, b"p")?;
     let rest = behind_word(rest, b"cnf")?;
@@ -115,7 +118,7 @@ impl Reading {
 
     // Nothing behind the header. Takes no memory.
     fn new(alloc: Global, header: Header) -> Self
-        ensures { Shows result (headed header.vars header.clauses) }
+        ensures { Shows result (empty_text header.vars header.clauses) }
     {
         let draft = Draft::new(alloc, header.vars);
         Reading {
@@ -126,35 +129,39 @@ impl Reading {
     }
 
     // Reads the clauses, up to a line that begins with `%` or to the end of the text.
-    fn read_clauses(&mut self, lines: &mut Lines) -> Result<(), FormulaFault>
-        ensures said { (text : FormulaText) → Shows self.old text → IfOk result (λ _. (said : FormulaText)
-            × (clauses_behind text lines.old.number lines.old.rest.now ≡ Ok said) × Shows self.new said) }
+    fn read_clauses(&mut self, lines: &mut Lines) -> Result<(), TextFault>
+        ensures said { (text : FormulaText) → Shows self.old text
+            → IfOk result (λ _. (said : FormulaText)
+            × (clauses_behind text lines.old.number lines.old.rest.now ≡ Ok said)
+            × Shows self.new said) }
         ensures stuck { (text : FormulaText) → Shows self.old text
             → IfErr result (IsStuckAt (clauses_behind text lines.old.number lines.old.rest.now)) }
-        ensures counted { IfErr result IsFormulaLine }
+        ensures counted { IfErr result IsLine }
     {
         while let Some(line) = lines.next() {
             if behind_word(line, b"%").is_some() {
                 return self.end(lines.number());
             }
             if !self.read_line(line)? {
-                return Err(FormulaFault::BadLine(lines.number()));
+                return Err(TextFault::BadLine(lines.number()));
             }
         }
         self.end(lines.next_number())
     }
 
     // Whether all clauses were read, where no more come from this line on.
-    fn end(&self, line: u64) -> Result<(), FormulaFault>
+    fn end(&self, line: u64) -> Result<(), TextFault>
         requires { 0 < line }
-        ensures said { (text : FormulaText) → Shows self.now text → IfOk result (λ _. ended line text ≡ Ok text) }
-        ensures stuck { (text : FormulaText) → Shows self.now text → IfErr result (IsStuckAt (ended line text)) }
-        ensures counted { IfErr result IsFormulaLine }
+        ensures said { (text : FormulaText) → Shows self.now text
+            → IfOk result (λ _. end_at line text ≡ Ok text) }
+        ensures stuck { (text : FormulaText) → Shows self.now text
+            → IfErr result (IsStuckAt (end_at line text)) }
+        ensures counted { IfErr result IsLine }
     {
         if self.is_full() && self.literals.is_empty() {
             Ok(())
         } else {
-            Err(FormulaFault::BadLine(line))
+            Err(TextFault::BadLine(line))
         }
     }
 
@@ -168,7 +175,8 @@ impl Reading {
 
     // Reads a line, and tells whether it could be read.
     fn read_line(&mut self, line: &[u8]) -> Result<bool, NoMemory>
-        ensures { (text : FormulaText) → Shows self.old text → IfOk result (λ is. GoesOn self.new is (with_words text (words_of line.now))) }
+        ensures { (text : FormulaText) → Shows self.old text
+            → IfOk result (λ is. GoesOn self.new is (with_words text (words_of line.now))) }
     {
         let mut rest = line;
         while let Some((word, behind)) = word_at(rest) {
@@ -182,7 +190,8 @@ impl Reading {
 
     // Reads a word, likewise.
     fn read_word(&mut self, word: &[u8]) -> Result<bool, NoMemory>
-        ensures { (text : FormulaText) → Shows self.old text → IfOk result (λ is. GoesOn self.new is (with_word text word.now)) }
+        ensures { (text : FormulaText) → Shows self.old text
+            → IfOk result (λ is. GoesOn self.new is (with_word text word.now)) }
     {
         if self.is_full() {
             return Ok(false);
@@ -197,7 +206,8 @@ impl Reading {
     // Reads a literal, likewise.
     fn read_literal(&mut self, number: i64) -> Result<bool, NoMemory>
         requires { number ≢ pos 0 }
-        ensures { (text : FormulaText) → Shows self.old text → IfOk result (λ is. GoesOn self.new is (with_literal text (literal_in number))) }
+        ensures { (text : FormulaText) → Shows self.old text
+            → IfOk result (λ is. GoesOn self.new is (with_literal text (literal_in number))) }
     {
         let Some(literal) = literal_of(number) else {
             return Ok(false);
@@ -212,7 +222,8 @@ impl Reading {
     // Ends the clause, likewise: with a tautology more there may be too many variables.
     fn end_clause(&mut self) -> Result<bool, NoMemory>
         requires { length self.old.draft.clauses < 4294967295 }
-        ensures { (text : FormulaText) → Shows self.old text → IfOk result (λ is. GoesOn self.new is (with_number text (Some (pos 0)))) }
+        ensures { (text : FormulaText) → Shows self.old text
+            → IfOk result (λ is. GoesOn self.new is (with_number text (Some (pos 0)))) }
     {
         put_in_order(&mut self.literals);
         if is_clause(&self.literals, self.draft.vars()) {
@@ -229,10 +240,10 @@ impl Reading {
     }
 
     // The formula.
-    fn into_formula(self, alloc: Global) -> Result<DimacsFormula, FormulaFault>
+    fn into_formula(self, alloc: Global) -> Result<DimacsFormula, TextFault>
         ensures vars { IfOk result (λ read. read.vars ≡ self.header.vars) }
         ensures clauses { IfOk result (λ read. read.clauses ≡ self.draft) }
-        ensures memory { IfErr result (λ fault. fault ≡ FormulaFault.NoMemory) }
+        ensures memory { IfErr result (λ fault. fault ≡ TextFault.NoMemory) }
     {
         let vars = self.header.vars;
         let clauses = self.draft.into_clauses(alloc)?;

@@ -22,10 +22,10 @@
 //! `read_proof` takes literals in any order and twice, deletions, comments, and ids with gaps. It keeps the
 //! file's id of each step, and tells that of a step that can't pass whatever it says.
 //!
-//! Both promise that what they read can be handed on as it is: the clauses are a formula's; the steps begin
-//! behind its clauses, are over its variables and end with the first that is empty, and no two have one id in
-//! the file. That it's what the text says is tested. Whether the steps prove anything is for `bx_check` to
-//! say.
+//! Both promise that what they read is what the text says, as `specs/FormulaTexts.antt` and
+//! `specs/ProofTexts.antt` have it, or that the line that is told is the first at which it is stuck. It can be
+//! handed on as it is: the clauses are a formula's; the steps begin behind its clauses, are over its variables
+//! and end with the first that is empty. Whether the steps prove anything is for `bx_check` to say.
 #![tactic(auto)]
 
 mod draft;
@@ -38,6 +38,6 @@ mod proof;
 mod read;
 mod scan;
 
-pub use fault::{FormulaFault, ProofFault};
+pub use fault::TextFault;
 pub use formula::{DimacsFormula, read_formula};
 pub use proof::{LratProof, read_proof};

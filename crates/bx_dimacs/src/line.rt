@@ -1,6 +1,9 @@
 //! One line of a proof, as numbers. What they name is left to the reader of the proof.
+ghost use Rattle.std.specs.Prelude.{◌≡◌, IfOk, option_map};
+ghost use Rattle.bx_dimacs.specs.Words.{words_of};
+ghost use Rattle.bx_dimacs.specs.ProofTexts.{line_of, numbers_of, with_literals};
 
-use crate::scan::{number_of, signed_of, word_at};
+use crate::scan::{behind_word, number_of, signed_of, word_at};
 use bx_logic::NoMemory;
 use std::alloc::Global;
 
@@ -22,6 +25,8 @@ pub(crate) struct StepLine {
 }
 
 impl StepLine {
+    ghost use Rattle.bx_dimacs.specs.StepsShown.{line_found};
+
     /// No step as yet. Takes no memory.
     pub(crate) fn new(alloc: Global) -> Self {
         StepLine {
@@ -31,14 +36,27 @@ impl StepLine {
     }
 
     /// Reads a line. Of a deletion only its front is looked at.
-    pub(crate) fn read(&mut self, line: &[u8]) -> Result<Line, NoMemory> {
-        let Some((id, rest)) = id_at(line) else {
+    pub(crate) fn read(&mut self, line: &[u8]) -> Result<Line, NoMemory>
+        ensures { IfOk result (λ is. line_of (words_of line.now) ≡ line_found self.new is) }
+    {
+        let Some((word, rest)) = word_at(line) else {
             return Ok(Line::Bad);
         };
-        if let Some((b"d", _)) = word_at(rest) {
+        let Some(id) = number_of(word) else {
+            return Ok(Line::Bad);
+        };
+        if behind_word(rest, b"d").is_some() {
             return Ok(Line::Deletion);
         }
-        let Some(rest) = read_numbers(rest, &mut self.literals)? else {
+        self.read_step(id, rest)
+    }
+
+    // Reads what stands behind the id of a step.
+    fn read_step(&mut self, id: u64, line: &[u8]) -> Result<Line, NoMemory>
+        ensures { IfOk result (λ is. with_literals id (numbers_of (words_of line.now))
+            ≡ line_found self.new is) }
+    {
+        let Some(rest) = read_numbers(line, &mut self.literals)? else {
             return Ok(Line::Bad);
         };
         let Some(rest) = read_numbers(rest, &mut self.hints)? else {
@@ -51,15 +69,12 @@ impl StepLine {
     }
 }
 
-// The id at the front of a line, and what stands behind it.
-fn id_at(line: &[u8]) -> Option<(u64, &[u8])> {
-    let (word, rest) = word_at(line)?;
-    Some((number_of(word)?, rest))
-}
-
 // Reads numbers up to the 0 that ends them, and answers what stands behind it, or none where another word
 // or the end of the line comes before.
-fn read_numbers<'a>(line: &'a [u8], numbers: &mut Vec<i64>) -> Result<Option<&'a [u8]>, NoMemory> {
+fn read_numbers<'a>(line: &'a [u8], numbers: &mut Vec<i64>) -> Result<Option<&'a [u8]>, NoMemory>
+    ensures { IfOk result (λ behind. numbers_of (words_of line.now)
+        ≡ option_map (λ rest. (numbers.new.items, words_of rest.now)) behind) }
+{
     numbers.clear();
     let mut rest = line;
     while let Some((word, behind)) = word_at(rest) {

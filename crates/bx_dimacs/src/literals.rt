@@ -17,9 +17,12 @@ pub(crate) fn literal_of(number: i64) -> Option<Lit>
 /// Orders literals by variable, and takes out those that stand twice. A variable stays twice where its
 /// negation stands there too.
 pub(crate) fn put_in_order(literals: &mut Vec<Lit>)
-    ensures same { All (λ l. 0 < l.var) literals.old.items → (l : Literal) → Contains literals.old.items l ↔ Contains literals.new.items l }
-    ensures ascending { is_tautology literals.old.items ≡ false → All (λ l. 0 < l.var) literals.old.items → AscendAbove 0 literals.new.items }
-    ensures twice { is_tautology literals.old.items ≡ true → All (λ l. 0 < l.var) literals.old.items → AscendAbove 0 literals.new.items → ⊥ }
+    ensures same { All (λ l. 0 < l.var) literals.old.items → (l : Literal)
+        → Contains literals.old.items l ↔ Contains literals.new.items l }
+    ensures ascending { is_tautology literals.old.items ≡ false
+        → All (λ l. 0 < l.var) literals.old.items → AscendAbove 0 literals.new.items }
+    ensures twice { is_tautology literals.old.items ≡ true
+        → All (λ l. 0 < l.var) literals.old.items → AscendAbove 0 literals.new.items → ⊥ }
 {
     literals.sort_unstable_by_key(|literal| literal.var());
     literals.dedup();

@@ -1,15 +1,22 @@
 //! Reading the steps of a proof, line by line. A step's own id is that of its place behind the formula's
 //! clauses; where its hints name steps by the file's ids, these are looked up among those that came before,
 //! which ascend.
-ghost use Rattle.std.specs.Prelude.{◌≡◌, ◌+◌, ◌∷◌, IfOk, IfErr, IfSome, IsTrue, length, slice_index};
+ghost use Rattle.std.specs.Prelude.{◌≡◌, ◌+◌, ◌<◌, ◌^◌, ◌∷◌, ℕ, false, map, length, is_some, All, IfOk, IfErr, IfSome, IsTrue, slice_index};
+ghost use Rattle.std.specs.List.{list_all};
+ghost use Rattle.std.specs.List.Sorted.{IsStrictlyIncreasing};
 ghost use Rattle.bx_cnf.specs.Formulas.{IsClause};
-ghost use Rattle.bx_dimacs.specs.Faults.{IsProofLine};
-ghost use Rattle.bx_dimacs.specs.Proofs.{IsOpen, IsOwnId, IsRead, IsStepOver, StandsAt};
+ghost use Rattle.bx_cnf.specs.Literals.{literal_of as literal_in};
+ghost use Rattle.bx_dimacs.specs.Faults.{IsLine, IsStuckAt};
+ghost use Rattle.bx_dimacs.specs.Keeping.{AreInOrder};
+ghost use Rattle.bx_dimacs.specs.Proofs.{IsOpen, IsOwnId, AreOwnIds, IsProofOf, IsRead, IsStepOver};
+ghost use Rattle.bx_dimacs.specs.ProofTexts.{ProofText, is_clause_over, last_id as last_of, line_of, may_pass, names_clause, no_steps as none, proof_of, with_line, with_step};
+ghost use Rattle.bx_dimacs.specs.StepsShown.{GoesOnAs, KeepsSoFar, StandsAt, step_made, step_of};
+ghost use Rattle.bx_dimacs.specs.Words.{words_of};
 
 use crate::line::{Line, StepLine};
 use crate::literals::{literal_of, put_in_order};
 use crate::scan::Lines;
-use crate::{LratProof, ProofFault};
+use crate::{LratProof, TextFault};
 use bx_cnf::{Clauses, Lit, is_clause};
 use bx_logic::NoMemory;
 use bx_proof::{Steps, is_step};
@@ -20,9 +27,11 @@ pub(crate) fn read_steps(
     alloc: Global,
     clauses: &Clauses,
     text: &[u8],
-) -> Result<LratProof, ProofFault>
+) -> Result<LratProof, TextFault>
     ensures read { IfOk result (λ read. IsRead clauses.now read) }
-    ensures counted { IfErr result IsProofLine }
+    ensures said { IfOk result (IsProofOf clauses.now text.now) }
+    ensures stuck { IfErr result (IsStuckAt (proof_of clauses.now text.now)) }
+    ensures counted { IfErr result IsLine }
 {
     let mut lines = Lines::new(text);
     let mut reader = Reader::new(alloc);
@@ -31,7 +40,7 @@ pub(crate) fn read_steps(
         match reader.read_line(line, clauses, &mut proof)? {
             Progress::On => {}
             Progress::Ended => return Ok(proof),
-            Progress::Bad => return Err(ProofFault::BadLine(lines.number())),
+            Progress::Bad => return Err(TextFault::BadLine(lines.number())),
         }
     }
     Ok(proof)
@@ -39,7 +48,8 @@ pub(crate) fn read_steps(
 
 // No steps behind the clauses of a formula. A store of as many clauses as it can keep leaves no id.
 fn no_steps(alloc: Global, clauses: &Clauses) -> Result<LratProof, NoMemory>
-    ensures { IfOk result (λ read. IsOpen clauses.now read) }
+    ensures stands { IfOk result (λ read. IsOpen clauses.now read) }
+    ensures keeps { IfOk result (λ read. KeepsSoFar clauses.now read false none) }
 {
     let count = clauses.len();
     if count == u32::MAX {
@@ -88,7 +98,10 @@ impl Reader {
         proof: &mut LratProof,
     ) -> Result<Progress, NoMemory>
         requires { IsOpen clauses.now proof.old }
-        ensures { IfOk result (λ progress. StandsAt clauses.now proof.new progress) }
+        ensures stands { IfOk result (λ progress. StandsAt clauses.now proof.new progress) }
+        ensures keeps { (said : ProofText) → KeepsSoFar clauses.now proof.old false said
+            → IfOk result (λ progress. GoesOnAs clauses.now proof.new progress
+            (with_line clauses.now said (line_of (words_of text.now)))) }
     {
         match self.line.read(text)? {
             Line::Bad => Ok(Progress::Bad),
@@ -105,7 +118,10 @@ impl Reader {
         proof: &mut LratProof,
     ) -> Result<Progress, NoMemory>
         requires { IsOpen clauses.now proof.old }
-        ensures { IfOk result (λ progress. StandsAt clauses.now proof.new progress) }
+        ensures stands { IfOk result (λ progress. StandsAt clauses.now proof.new progress) }
+        ensures keeps { (said : ProofText) → KeepsSoFar clauses.now proof.old false said
+            → IfOk result (λ progress. GoesOnAs clauses.now proof.new progress
+            (with_step clauses.now said (step_of self.old.line id))) }
     {
         if id <= last_id(clauses.len(), &proof.ids) {
             return Ok(Progress::Bad);
@@ -129,11 +145,28 @@ impl Reader {
 
     // Makes a step of the numbers of the line, and tells whether they make one of this id.
     fn make_step(&mut self, own: u64, clauses: &Clauses, ids: &[u64]) -> Result<bool, NoMemory>
-        ensures { IfOk result (λ is. IsTrue is → IsStepOver clauses.now own (record { literals = self.new.literals.items; hints = self.new.hints.items })) }
+        requires own { own ≡ length clauses.now.clauses + 1 + length ids.now }
+        requires room { own < 2 ^ 32 }
+        requires ascending { IsStrictlyIncreasing (length clauses.now.clauses ∷ ids.now) }
+        ensures exact { IfOk result (λ is. is
+            ≡ may_pass clauses.now ids.now (step_of self.old.line own)) }
+        ensures over { IfOk result (λ is. IsTrue is
+            → IsStepOver clauses.now own (step_made self.new)) }
+        ensures ordered { IfOk result (λ is. IsTrue is
+            → AreInOrder (map literal_in self.old.line.literals.items) self.new.literals.items) }
+        ensures named { IfOk result (λ is. IsTrue is
+            → AreOwnIds (length clauses.now.clauses) ids.now
+            self.old.line.hints.items self.new.hints.items) }
     {
         let is_over = find_literals(&self.line.literals, clauses.vars(), &mut self.literals)?;
         let are_named = find_hints(&self.line.hints, clauses.len(), ids, &mut self.hints)?;
-        Ok(is_over && are_named && is_step(own, &self.literals, &self.hints))
+        if !is_over {
+            return Ok(false);
+        }
+        if !are_named {
+            return Ok(false);
+        }
+        Ok(is_step(own, &self.literals, &self.hints))
     }
 }
 
@@ -149,7 +182,26 @@ fn last_id(count: u32, ids: &[u64]) -> u64
 
 // Finds the literals that numbers are, and tells whether they make a clause over variables 1 to `vars`.
 fn find_literals(numbers: &[i64], vars: u32, literals: &mut Vec<Lit>) -> Result<bool, NoMemory>
-    ensures { IfOk result (λ is. IsTrue is → IsClause vars literals.new.items) }
+    requires { vars < 2 ^ 31 }
+    ensures exact { IfOk result (λ is. is ≡ is_clause_over vars (map literal_in numbers.now)) }
+    ensures clause { IfOk result (λ is. IsTrue is → IsClause vars literals.new.items) }
+    ensures ordered { IfOk result (λ is. IsTrue is
+        → AreInOrder (map literal_in numbers.now) literals.new.items) }
+{
+    if !put_literals(numbers, literals)? {
+        return Ok(false);
+    }
+    put_in_order(literals);
+    Ok(is_clause(literals, vars))
+}
+
+// Puts the literals that numbers are into a list, and tells whether each is one.
+fn put_literals(numbers: &[i64], literals: &mut Vec<Lit>) -> Result<bool, NoMemory>
+    ensures found { IfOk result (λ is. IsTrue is
+        → literals.new.items ≡ map literal_in numbers.now) }
+    ensures positive { IfOk result (λ is. IsTrue is → All (λ l. 0 < l.var) literals.new.items) }
+    ensures none { IfOk result (λ is. is ≡ false → (vars : ℕ) → vars < 2 ^ 31
+        → is_clause_over vars (map literal_in numbers.now) ≡ false) }
 {
     literals.clear();
     for number in numbers {
@@ -158,8 +210,7 @@ fn find_literals(numbers: &[i64], vars: u32, literals: &mut Vec<Lit>) -> Result<
         };
         literals.push(literal)?;
     }
-    put_in_order(literals);
-    Ok(is_clause(literals, vars))
+    Ok(true)
 }
 
 // Finds the own ids of the clauses that numbers name, and tells whether each names one.
@@ -168,7 +219,13 @@ fn find_hints(
     count: u32,
     ids: &[u64],
     hints: &mut Vec<u32>,
-) -> Result<bool, NoMemory> {
+) -> Result<bool, NoMemory>
+    requires room { count + 1 + length ids.now < 2 ^ 32 }
+    requires ascending { IsStrictlyIncreasing (count ∷ ids.now) }
+    ensures exact { IfOk result (λ are. are ≡ list_all (names_clause count ids.now) numbers.now) }
+    ensures named { IfOk result (λ are. IsTrue are
+        → AreOwnIds count ids.now numbers.now hints.new.items) }
+{
     hints.clear();
     for number in numbers {
         let Some(hint) = own_id(*number, count, ids) else {
@@ -182,12 +239,20 @@ fn find_hints(
 // The own id of the clause with this id in the file: behind so many clauses, which have the same in both,
 // come steps with these.
 fn own_id(number: i64, count: u32, ids: &[u64]) -> Option<u32>
-    ensures { IfSome result (λ own. IsOwnId count ids.now number own) }
+    requires room { count + 1 + length ids.now < 2 ^ 32 }
+    requires ascending { IsStrictlyIncreasing (count ∷ ids.now) }
+    ensures own { IfSome result (IsOwnId count ids.now number) }
+    ensures exact { is_some result ≡ names_clause count ids.now number }
 {
     let id = u64::try_from(number).ok()?;
-    if id <= u64::from(count) {
-        return u32::try_from(id).ok();
+    if id == 0 {
+        return None;
     }
-    let place = ids.binary_search(&id).ok()?;
-    u32::try_from(u64::from(count) + 1 + place as u64).ok()
+    if id <= u64::from(count) {
+        return Some(id as u32);
+    }
+    match ids.binary_search(&id) {
+        Ok(place) => Some(count + 1 + place as u32),
+        Err(_) => None,
+    }
 }

@@ -42,10 +42,12 @@ impl<'a> Lines<'a> {
     /// Reads up to and with the next line that has a word, and is no comment.
     pub(crate) fn next(&mut self) -> Option<&'a [u8]>
         ensures some { IfSome result (λ line. lines_from (self.old.number + 1) self.old.rest.now
-            ≡ (self.new.number, words_of line.now) ∷ lines_from (self.new.number + 1) self.new.rest.now) }
+            ≡ (self.new.number, words_of line.now)
+            ∷ lines_from (self.new.number + 1) self.new.rest.now) }
         ensures none { IfNone result (lines_from (self.old.number + 1) self.old.rest.now ≡ []) }
         ensures at_end { IfNone result (self.new.rest.now ≡ []) }
-        ensures whole { self.new.number + length (lines_of self.new.rest.now) ≡ self.old.number + length (lines_of self.old.rest.now) }
+        ensures whole { self.new.number + length (lines_of self.new.rest.now)
+            ≡ self.old.number + length (lines_of self.old.rest.now) }
         ensures shorter { IsSome result → length self.new.rest.now < length self.old.rest.now }
         ensures counted { IsSome result → 0 < self.new.number }
     {
@@ -59,7 +61,8 @@ impl<'a> Lines<'a> {
 
     // Reads the next line.
     fn cut(&mut self) -> Option<&'a [u8]>
-        ensures some { IfSome result (λ line. lines_of self.old.rest.now ≡ line.now ∷ lines_of self.new.rest.now) }
+        ensures some { IfSome result (λ line. lines_of self.old.rest.now
+            ≡ line.now ∷ lines_of self.new.rest.now) }
         ensures none { IfNone result ((self.old.rest.now ≡ []) × (self.new ≡ self.old)) }
         ensures number { IsSome result → self.new.number ≡ self.old.number + 1 }
         ensures shorter { IsSome result → length self.new.rest.now < length self.old.rest.now }
@@ -137,7 +140,8 @@ fn blank_at(words: &[u8]) -> Option<usize>
 /// What stands behind the first word of a line, where it is this word.
 pub(crate) fn behind_word<'a>(line: &'a [u8], word: &[u8]) -> Option<&'a [u8]>
     ensures some { IfSome result (λ rest. words_of line.now ≡ word.now ∷ words_of rest.now) }
-    ensures none { IfNone result ((words : List (List ℕ)) → words_of line.now ≡ word.now ∷ words → ⊥) }
+    ensures none { IfNone result ((words : List (List ℕ)) → words_of line.now ≡ word.now ∷ words
+        → ⊥) }
 {
     let (first, rest) = word_at(line)?;
     if first == word { Some(rest) } else { None }

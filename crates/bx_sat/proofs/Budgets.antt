@@ -5,14 +5,9 @@ use Rattle.std.specs.Char.{is_ascii_digit}
 use Rattle.std.specs.List.{list_all}
 use Rattle.std.specs.Result.{result_ok, OkIff}
 use Rattle.std.specs.Str.Parse.{ParsesUnsigned, digits_value}
-use Rattle.std.proofs.lemmas.Str.Parse.{IsDigitsTest, IsNumeralModel, numerals_by_value, parse_digits}
+use Rattle.std.proofs.lemmas.Str.Parse.{parse_digits}
+use Rattle.bx_dimacs.proofs.Digits.{model}
 use Rattle.bx_sat.specs.Words.{budget_of}
-
-are_told : IsDigitsTest (λ ds. list_all is_ascii_digit ds ≡ true)
-are_told = search rules
-
-model : IsNumeralModel (λ ds. list_all is_ascii_digit ds ≡ true) (digits_value 10)
-model = numerals_by_value (λ ds. list_all is_ascii_digit ds ≡ true) are_told
 
 -- an answer that is one just where a test holds
 by_test : {E : Type 0} (b : Bool) (P : Type 0) (v : ℕ) (r : Result ℕ E) → OkIff r P v → (b ≡ true → P) → (P → b ≡ true) → result_ok r ≡ (if b then Some v else None)

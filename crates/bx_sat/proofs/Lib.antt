@@ -1,5 +1,7 @@
 pub mod Endings
 pub mod Writing
 pub mod Values
+pub mod ValueLines
 pub mod Stopping
 pub mod Budgets
+pub mod Found

@@ -3,21 +3,21 @@ use Rattle.std.specs.Prelude.{ℕ, take, codes}
 use Rattle.bx_says.specs.Texts.{Text}
 use Rattle.bx_sat.specs.declared.status.SatStatus.{SatStatus}
 use Rattle.bx_sat.specs.declared.status.SatStatus.TheVariants.{Verified as IsVerified, NotVerified, Satisfiable as IsSatisfiable, Unsatisfiable as IsUnsatisfiable, Unknown as IsUnknown}
-use Rattle.bx_sat.specs.declared.checking.Verdict.{Verdict}
-use Rattle.bx_sat.specs.declared.checking.Verdict.TheVariants.{Verified, Fails, Open}
+use Rattle.bx_sat.specs.declared.checking.Finding.{Finding}
+use Rattle.bx_sat.specs.declared.checking.Finding.TheVariants.{Verified, Fails, Open}
 use Rattle.bx_sat.specs.declared.solving.Answer.{Answer}
 use Rattle.bx_sat.specs.declared.solving.Answer.TheVariants.{Satisfiable, Unsatisfiable, Unknown}
 use Rattle.bx_sat.specs.Sayings.{failure_text, solution_text}
 
-abbrev pub verdict_status : Verdict → SatStatus
-verdict_status Verified = IsVerified
-verdict_status (Fails id) = NotVerified
-verdict_status Open = NotVerified
+abbrev pub finding_status : Finding → SatStatus
+finding_status Verified = IsVerified
+finding_status (Fails id) = NotVerified
+finding_status Open = NotVerified
 
-abbrev pub verdict_text : Verdict → Text
-verdict_text Verified = codes "s VERIFIED\n"
-verdict_text (Fails id) = failure_text id
-verdict_text Open = codes "s NOT VERIFIED\n"
+abbrev pub finding_text : Finding → Text
+finding_text Verified = codes "s VERIFIED\n"
+finding_text (Fails id) = failure_text id
+finding_text Open = codes "s NOT VERIFIED\n"
 
 abbrev pub answer_status : Answer → SatStatus
 answer_status (Satisfiable bits) = IsSatisfiable

@@ -7,9 +7,9 @@ use Rattle.bx_sat.specs.declared.command.Command.TheVariants.{Check, Solve}
 use Rattle.bx_sat.specs.Words.{Request, check, solve}
 
 -- the name that may be given for a file
-abbrev pub named : Option (Bor Text) → Option Text
-named name = option_map (λ text. text.now) name
+abbrev pub name_of : Option (Bor Text) → Option Text
+name_of name = option_map (λ text. text.now) name
 
-abbrev pub asked : Command → Request
-asked (Check formula proof) = check formula.now proof.now
-asked (Solve formula budget proof) = solve formula.now budget (named proof)
+abbrev pub request_by : Command → Request
+request_by (Check formula proof) = check formula.now proof.now
+request_by (Solve formula budget proof) = solve formula.now budget (name_of proof)

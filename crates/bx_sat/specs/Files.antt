@@ -1,10 +1,13 @@
 -- What a file that isn't read, or isn't written whole, leaves of a desk.
-use Rattle.std.specs.Prelude.{◌≡◌, ℕ, ◌+◌, ◌<◌, length, Option, Some, None, Ok, Err}
+use Rattle.std.specs.Prelude.{◌≡◌, ℕ, ◌+◌, length, Option, Some, None, Err}
 use Rattle.bx_cnf.specs.Formulas.{Formula}
 use Rattle.bx_desk.specs.Desk.{DeskState, IsFile, BeginsFile, FailsToLoad, Starts, FailsToStart, WritesFront}
 use Rattle.bx_dimacs.specs.declared.formula.DimacsFormula.{DimacsFormula}
-use Rattle.bx_dimacs.specs.FormulaTexts.{FormulaText, formula_of}
-use Rattle.bx_dimacs.specs.Keeping.{Keeps}
+use Rattle.bx_dimacs.specs.declared.proof.LratProof.{LratProof}
+use Rattle.bx_dimacs.specs.FormulaTexts.{formula_of}
+use Rattle.bx_dimacs.specs.Keeping.{IsFormulaOf}
+use Rattle.bx_dimacs.specs.ProofTexts.{proof_of}
+use Rattle.bx_dimacs.specs.Proofs.{IsProofOf}
 use Rattle.bx_says.specs.Texts.{Text}
 use Rattle.bx_sat.specs.declared.load.Unread.{Unread}
 use Rattle.bx_sat.specs.declared.load.Unread.TheVariants.{BadLine, Failed, NoMemory}
@@ -19,20 +22,22 @@ pub data FailsToRead (old new : DeskState) (name : Text) : Type 0 where
   unloaded : FailsToLoad old new → FailsToRead old new name
   too_long : (front : Text) → length front ≡ most_bytes + 1 → BeginsFile old.files name front → new ≡ old → FailsToRead old new name
 
--- What was read of the file of this name, where the desk tells its files: the formula keeps what the file's text says,
--- of as many variables as it declares.
+-- it is the formula of the text of the file of this name, where the desk tells its files
 pub record IsFormulaIn (desk : DeskState) (name : Text) (read : DimacsFormula) : Type 0 where
   pub bytes : Text
   pub file : IsFile desk.files name bytes
-  pub said : FormulaText
-  pub says : formula_of bytes ≡ Ok said
-  pub vars : read.vars ≡ said.vars
-  pub keeps : Keeps said read.clauses
+  pub is : IsFormulaOf bytes read
+
+-- it is what the text of the file of this name says of a proof for a formula, where the desk tells its files
+pub record IsProofIn (formula : Formula) (desk : DeskState) (name : Text) (read : LratProof) : Type 0 where
+  pub bytes : Text
+  pub file : IsFile desk.files name bytes
+  pub is : IsProofOf formula bytes read
 
 -- a text is stuck at this line: as a formula, or as a proof for one
 abbrev pub IsBadLine : Option Formula → Text → ℕ → Type 0
 IsBadLine None bytes line = formula_of bytes ≡ Err line
-IsBadLine (Some formula) bytes line = 0 < line
+IsBadLine (Some formula) bytes line = proof_of formula bytes ≡ Err line
 
 -- the text of the file of this name, where the desk tells its files, is stuck at this line
 pub record IsBadLineIn (of : Option Formula) (desk : DeskState) (name : Text) (line : ℕ) : Type 0 where

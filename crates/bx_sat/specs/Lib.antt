@@ -1,9 +1,10 @@
 pub mod Statuses
 pub mod Words
-pub mod Verdicts
-pub mod Findings
+pub mod Checking
+pub mod Solving
 pub mod Sayings
 pub mod Answers
 pub mod Files
 pub mod Runs
+pub mod Texts
 pub mod Commands

@@ -8,14 +8,14 @@ use Rattle.bx_proof.specs.Texts.{log_text}
 use Rattle.bx_says.specs.Texts.{Text}
 use Rattle.bx_sat.specs.declared.status.SatStatus.{SatStatus}
 use Rattle.bx_sat.specs.declared.status.SatStatus.TheVariants.{BadLine, Words, Failed, NoMemory}
-use Rattle.bx_sat.specs.declared.checking.Verdict.{Verdict}
+use Rattle.bx_sat.specs.declared.checking.Finding.{Finding}
 use Rattle.bx_sat.specs.declared.solving.Answer.{Answer}
 use Rattle.bx_sat.specs.declared.solving.Answer.TheVariants.{Unsatisfiable}
-use Rattle.bx_sat.specs.Answers.{verdict_status, verdict_text, answer_status, answer_text}
-use Rattle.bx_sat.specs.Files.{IsFormulaIn, IsBadLineIn, FailsToRead, FailsToWrite}
-use Rattle.bx_sat.specs.Findings.{used, IsEnd, IsRight}
+use Rattle.bx_sat.specs.Answers.{finding_status, finding_text, answer_status, answer_text}
+use Rattle.bx_sat.specs.Files.{IsFormulaIn, IsProofIn, IsBadLineIn, FailsToRead, FailsToWrite}
+use Rattle.bx_sat.specs.Solving.{IsAnswerTo}
 use Rattle.bx_sat.specs.Sayings.{EndsSaying, bad_line_text}
-use Rattle.bx_sat.specs.Verdicts.{IsProofVerdict}
+use Rattle.bx_sat.specs.Checking.{IsFinding}
 use Rattle.bx_sat.specs.Words.{Request, check, solve}
 
 abbrev pub usage_text : Text
@@ -24,7 +24,8 @@ usage_text = codes "the words are check FORMULA PROOF or solve FORMULA BUDGET [P
 -- there is no answer: the text of the file of this name is stuck at a line, which is said; or the file can't be read, or
 -- memory was refused, and nothing is written or said
 pub data Unanswered (of : Option Formula) (name : Text) (old new : DeskState) (result : SatStatus) : Type 0 where
-  unread : (line : ℕ) → IsBadLineIn of old name line → EndsSaying old new BadLine (bad_line_text name line) result → Unanswered of name old new result
+  unread : (line : ℕ) → IsBadLineIn of old name line
+      → EndsSaying old new BadLine (bad_line_text name line) result → Unanswered of name old new result
   broken : FailsToRead old new name → result ≡ Failed → Unanswered of name old new result
   refused : new ≡ old → result ≡ NoMemory → Unanswered of name old new result
 
@@ -38,24 +39,24 @@ abbrev pub FailsToKeep : DeskState → DeskState → Answer → Option Text → 
 FailsToKeep old new (Unsatisfiable log) (Some name) = FailsToWrite old new name (log_text log)
 FailsToKeep old new answer name = ⊥
 
--- it says what a proof is for the formula of the file of this name, as it was read from the file of the other
-pub data EndsCheck (formula_name proof_name : Text) (old new : DeskState) (result : SatStatus) : Type 0 where
-  checked : (formula : DimacsFormula) (proof : LratProof) (verdict : Verdict) → IsFormulaIn old formula_name formula
-      → IsProofVerdict formula.clauses proof verdict
-      → EndsSaying old new (verdict_status verdict) (verdict_text verdict) result → EndsCheck formula_name proof_name old new result
-  no_formula : Unanswered None formula_name old new result → EndsCheck formula_name proof_name old new result
-  no_proof : (formula : DimacsFormula) → IsFormulaIn old formula_name formula → Unanswered (Some formula.clauses) proof_name old new result
-      → EndsCheck formula_name proof_name old new result
+-- it says what is found of the proof in a file for the formula in another
+pub data EndsCheck (formula proof : Text) (old new : DeskState) (result : SatStatus) : Type 0 where
+  checked : (read : DimacsFormula) (steps : LratProof) (finding : Finding)
+      → IsFormulaIn old formula read → IsProofIn read.clauses old proof steps → IsFinding read.clauses steps finding
+      → EndsSaying old new (finding_status finding) (finding_text finding) result → EndsCheck formula proof old new result
+  no_formula : Unanswered None formula old new result → EndsCheck formula proof old new result
+  no_proof : (read : DimacsFormula) → IsFormulaIn old formula read
+      → Unanswered (Some read.clauses) proof old new result → EndsCheck formula proof old new result
 
--- it says what the search of the formula of the file of this name ends with, within what is used of this budget, and before that keeps the proof;
--- of a solution it says the values of the variables that the file declares, which the formula has; where the proof
--- can't be kept, it says nothing
+-- it says what the search of the formula in a file ends with, within what is used of this budget, and before that keeps
+-- the proof; of a solution it says the values of the variables that the file declares, which the formula has; where the
+-- proof can't be kept, it says nothing
 pub data EndsSolve (name : Text) (budget : ℕ) (proof : Option Text) (old new : DeskState) (result : SatStatus) : Type 0 where
-  solved : (mid : DeskState) (formula : DimacsFormula) (answer : Answer) → IsFormulaIn old name formula → formula.vars ≤ formula.clauses.vars
-      → IsEnd formula.clauses (used formula.clauses budget) answer → IsRight formula.clauses answer → KeepsProof old mid answer proof
-      → EndsSaying mid new (answer_status answer) (answer_text formula.vars answer) result → EndsSolve name budget proof old new result
-  unkept : (formula : DimacsFormula) (answer : Answer) → IsFormulaIn old name formula
-      → IsEnd formula.clauses (used formula.clauses budget) answer → IsRight formula.clauses answer
+  solved : (mid : DeskState) (read : DimacsFormula) (answer : Answer)
+      → IsFormulaIn old name read → read.vars ≤ read.clauses.vars → IsAnswerTo read.clauses budget answer
+      → KeepsProof old mid answer proof
+      → EndsSaying mid new (answer_status answer) (answer_text read.vars answer) result → EndsSolve name budget proof old new result
+  unkept : (read : DimacsFormula) (answer : Answer) → IsFormulaIn old name read → IsAnswerTo read.clauses budget answer
       → FailsToKeep old new answer proof → result ≡ Failed → EndsSolve name budget proof old new result
   no_formula : Unanswered None name old new result → EndsSolve name budget proof old new result
 

@@ -34,8 +34,8 @@ abbrev pub has_room : ℕ → Text → Bool
 has_room column word = nat_lt (column + length word) 79
 
 -- a word behind so many bytes of a line, or on a line of its own where it has no room there
-abbrev pub placed : ℕ → Text → Text
-placed column word = start_text (has_room column word) ++ word
+abbrev pub word_behind : ℕ → Text → Text
+word_behind column word = start_text (has_room column word) ++ word
 
 -- how many bytes the line has behind it
 abbrev pub column_behind : ℕ → Text → ℕ
@@ -43,9 +43,9 @@ column_behind column word = if has_room column word then column + length word el
 
 -- the values of the variables from this one on, behind so many bytes of a line, and the 0 that ends them
 abbrev pub values_text : ℕ → ℕ → List Bool → Text
-values_text column var [] = placed column (value_word 0 true) ++ 10 ∷ []
+values_text column var [] = word_behind column (value_word 0 true) ++ 10 ∷ []
 values_text column var (value ∷ values) =
-    placed column (value_word var value) ++ values_text (column_behind column (value_word var value)) (var + 1) values
+    word_behind column (value_word var value) ++ values_text (column_behind column (value_word var value)) (var + 1) values
 
 -- there is a solution, which has these values
 abbrev pub solution_text : List Bool → Text

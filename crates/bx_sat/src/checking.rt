@@ -2,7 +2,7 @@
 ghost use Rattle.std.specs.Prelude.{◌≡◌, ◌≢◌, ◌+◌, List, Bool, length, IfOk};
 ghost use Rattle.bx_cnf.specs.Formulas.{AllTrue};
 ghost use Rattle.bx_proof.specs.Accepted.{IsAccepted};
-ghost use Rattle.bx_sat.specs.Verdicts.{IsProofVerdict};
+ghost use Rattle.bx_sat.specs.Checking.{IsFinding, IsNotAccepted};
 
 use bx_check::{check, first_failure};
 use bx_cnf::Clauses;
@@ -12,7 +12,7 @@ use std::alloc::Global;
 
 /// What a proof is.
 #[derive(Clone, Copy)]
-pub enum Verdict {
+pub enum Finding {
     /// Its steps are accepted.
     Verified,
     /// The step of this id, the file's own, is the first that fails.
@@ -27,31 +27,34 @@ pub enum Verdict {
 /// # Errors
 ///
 /// `NoMemory`.
-pub fn verify(alloc: Global, clauses: &Clauses, proof: &LratProof) -> Result<Verdict, NoMemory>
+pub fn verify(alloc: Global, clauses: &Clauses, proof: &LratProof) -> Result<Finding, NoMemory>
     requires numbered { proof.now.steps.first ≡ length clauses.now.clauses + 1 }
     requires named { length proof.now.ids.items ≡ length proof.now.steps.steps }
-    ensures verdict { IfOk result (IsProofVerdict clauses.now proof.now) }
-    ensures verified { IfOk result (λ verdict. IsAccepted clauses.now proof.now.steps → verdict ≡ Verdict.Verified) }
-    ensures sound { IfOk result (λ verdict. verdict ≡ Verdict.Verified → (bits : List Bool) → AllTrue bits clauses.now.clauses → ⊥) }
+    ensures finding { IfOk result (IsFinding clauses.now proof.now) }
+    ensures verified { IfOk result (λ finding. IsAccepted clauses.now proof.now.steps
+        → finding ≡ Finding.Verified) }
+    ensures sound { IfOk result (λ finding. finding ≡ Finding.Verified → (bits : List Bool)
+        → AllTrue bits clauses.now.clauses → ⊥) }
 {
     if check(alloc, clauses, &proof.steps)? {
-        return Ok(Verdict::Verified);
+        return Ok(Finding::Verified);
     }
     failure_of(alloc, clauses, proof)
 }
 
 // Which step fails first, of a proof that isn't accepted.
-fn failure_of(alloc: Global, clauses: &Clauses, proof: &LratProof) -> Result<Verdict, NoMemory>
+fn failure_of(alloc: Global, clauses: &Clauses, proof: &LratProof) -> Result<Finding, NoMemory>
     requires numbered { proof.now.steps.first ≡ length clauses.now.clauses + 1 }
     requires named { length proof.now.ids.items ≡ length proof.now.steps.steps }
-    ensures verdict { IfOk result (IsProofVerdict clauses.now proof.now) }
-    ensures not_verified { IfOk result (λ verdict. verdict ≢ Verdict.Verified) }
+    requires not_accepted { IsNotAccepted clauses.now proof.now }
+    ensures finding { IfOk result (IsFinding clauses.now proof.now) }
+    ensures not_verified { IfOk result (λ finding. finding ≢ Finding.Verified) }
 {
     if let Some(k) = first_failure(alloc, clauses, &proof.steps)? {
-        return Ok(Verdict::Fails(proof.ids[k as usize]));
+        return Ok(Finding::Fails(proof.ids[k as usize]));
     }
     match proof.ill {
-        Some(id) => Ok(Verdict::Fails(id)),
-        None => Ok(Verdict::Open),
+        Some(id) => Ok(Finding::Fails(id)),
+        None => Ok(Finding::Open),
     }
 }

@@ -3,7 +3,7 @@ ghost use Rattle.std.specs.Prelude.{◌≡◌, option_map};
 ghost use Rattle.std.specs.List.{list_all};
 ghost use Rattle.std.specs.Char.{is_ascii_digit};
 ghost use Rattle.bx_sat.specs.Words.{texts, request_of, budget_of as budget_in};
-ghost use Rattle.bx_sat.specs.Commands.{asked};
+ghost use Rattle.bx_sat.specs.Commands.{request_by};
 
 /// What is to be run.
 #[derive(Clone, Copy)]
@@ -24,7 +24,7 @@ pub(crate) enum Command<'a> {
 impl<'a> Command<'a> {
     /// The command that these words ask for, if they ask for one. A proof isn't written over its formula.
     pub(crate) fn of_words(words: &'a [String]) -> Option<Self>
-        ensures { option_map asked result ≡ request_of (texts words.now) }
+        ensures { option_map request_by result ≡ request_of (texts words.now) }
     {
         match words {
             [verb, formula, proof] if verb.as_str() == "check" => Some(Command::Check {

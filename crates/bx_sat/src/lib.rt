@@ -18,7 +18,7 @@ mod say;
 mod solving;
 mod status;
 
-pub use checking::{Verdict, verify};
+pub use checking::{Finding, verify};
 pub use run::run_sat;
 pub use solving::{Answer, decide};
 pub use status::SatStatus;

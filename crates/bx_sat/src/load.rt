@@ -2,11 +2,11 @@
 
 ghost use Rattle.std.specs.Prelude.{◌≡◌, ◌+◌, ◌≤◌, length, IfOk, IfErr, OnOk, Some, None};
 ghost use Rattle.bx_desk.specs.Desk.{IsFile};
-ghost use Rattle.bx_sat.specs.Files.{IsFormulaIn, LeavesUnloaded, LeavesUnread};
+ghost use Rattle.bx_sat.specs.Files.{IsFormulaIn, IsProofIn, LeavesUnloaded, LeavesUnread};
 
 use bx_cnf::Clauses;
 use bx_desk::{Desk, LoadFault};
-use bx_dimacs::{DimacsFormula, FormulaFault, LratProof, ProofFault, read_formula, read_proof};
+use bx_dimacs::{DimacsFormula, LratProof, TextFault, read_formula, read_proof};
 use std::alloc::Global;
 
 // The longest file that is read, in bytes: 64 GiB.
@@ -36,8 +36,8 @@ pub(crate) fn load_formula<D: Desk>(
 {
     let text = load(alloc, name, desk)?;
     read_formula(alloc, &text).map_err(|fault| match fault {
-        FormulaFault::BadLine(line) => Unread::BadLine(line),
-        FormulaFault::NoMemory => Unread::NoMemory,
+        TextFault::BadLine(line) => Unread::BadLine(line),
+        TextFault::NoMemory => Unread::NoMemory,
     })
 }
 
@@ -48,15 +48,17 @@ pub(crate) fn load_proof<D: Desk>(
     name: &str,
     desk: &mut D,
 ) -> Result<LratProof, Unread>
+    ensures said { IfOk result (IsProofIn clauses.now (D.state desk.old) name.now) }
     ensures numbered { IfOk result (λ proof. proof.steps.first ≡ length clauses.now.clauses + 1) }
     ensures named { IfOk result (λ proof. length proof.ids.items ≡ length proof.steps.steps) }
     ensures ok_stays { OnOk result (D.state desk.new ≡ D.state desk.old) }
-    ensures err { IfErr result (LeavesUnread (Some clauses.now) (D.state desk.old) (D.state desk.new) name.now) }
+    ensures err { IfErr result (LeavesUnread (Some clauses.now)
+        (D.state desk.old) (D.state desk.new) name.now) }
 {
     let text = load(alloc, name, desk)?;
     read_proof(alloc, clauses, &text).map_err(|fault| match fault {
-        ProofFault::BadLine(line) => Unread::BadLine(line),
-        ProofFault::NoMemory => Unread::NoMemory,
+        TextFault::BadLine(line) => Unread::BadLine(line),
+        TextFault::NoMemory => Unread::NoMemory,
     })
 }
 

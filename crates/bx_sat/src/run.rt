@@ -5,7 +5,7 @@ ghost use Rattle.bx_cnf.specs.Formulas.{Formula};
 ghost use Rattle.bx_desk.specs.Desk.{DeskState, Starts, Writes, WritesFront};
 ghost use Rattle.bx_proof.specs.Steps.{StepList};
 ghost use Rattle.bx_proof.specs.Texts.{log_text};
-ghost use Rattle.bx_sat.specs.Commands.{named};
+ghost use Rattle.bx_sat.specs.Commands.{name_of};
 ghost use Rattle.bx_sat.specs.Files.{LeavesUnread, FailsToWrite};
 ghost use Rattle.bx_sat.specs.Runs.{EndsRun, EndsCheck, EndsSolve, KeepsProof, FailsToKeep, Unanswered};
 ghost use Rattle.bx_sat.specs.Words.{texts, request_of};
@@ -13,7 +13,7 @@ ghost use Rattle.bx_sat.specs.Words.{texts, request_of};
 use crate::checking::verify;
 use crate::command::Command;
 use crate::load::{Unread, load_formula, load_proof};
-use crate::say::{say, say_answer, say_bad_line, say_verdict};
+use crate::say::{say, say_answer, say_bad_line, say_finding};
 use crate::solving::{Answer, decide};
 use crate::status::SatStatus;
 use bx_desk::{Desk, Failed, Piece};
@@ -56,7 +56,7 @@ fn check_files<D: Desk>(alloc: Global, formula: &str, proof: &str, desk: &mut D)
         Err(fault) => return say_unread(proof, fault, desk),
     };
     match verify(alloc, &read.clauses, &steps) {
-        Ok(verdict) => say_verdict(verdict, desk),
+        Ok(finding) => say_finding(finding, desk),
         Err(NoMemory) => SatStatus::NoMemory,
     }
 }
@@ -69,7 +69,8 @@ fn solve_file<D: Desk>(
     proof: Option<&str>,
     desk: &mut D,
 ) -> SatStatus
-    ensures { EndsSolve formula.now budget (named proof.entry) (D.state desk.old) (D.state desk.new) result }
+    ensures { EndsSolve formula.now budget (name_of proof.entry)
+        (D.state desk.old) (D.state desk.new) result }
 {
     let read = match load_formula(alloc, formula, desk) {
         Ok(read) => read,
@@ -88,8 +89,10 @@ fn solve_file<D: Desk>(
 // Writes the proof of an answer that has one, where there is a file for it.
 fn keep_proof<D: Desk>(answer: &Answer, proof: Option<&str>, desk: &mut D) -> Result<(), Failed>
     requires { (log : StepList) → answer.now ≡ Answer.Unsatisfiable log → 0 < length log.steps }
-    ensures ok { OnOk result (KeepsProof (D.state desk.old) (D.state desk.new) answer.now (named proof.entry)) }
-    ensures err { OnErr result (FailsToKeep (D.state desk.old) (D.state desk.new) answer.now (named proof.entry)) }
+    ensures ok { OnOk result (KeepsProof
+        (D.state desk.old) (D.state desk.new) answer.now (name_of proof.entry)) }
+    ensures err { OnErr result (FailsToKeep
+        (D.state desk.old) (D.state desk.new) answer.now (name_of proof.entry)) }
 {
     match answer {
         Answer::Unsatisfiable(steps) => match proof {
@@ -103,8 +106,10 @@ fn keep_proof<D: Desk>(answer: &Answer, proof: Option<&str>, desk: &mut D) -> Re
 // Writes steps, of which there is one at least, into a file.
 fn write_proof<D: Desk>(steps: &Steps, name: &str, desk: &mut D) -> Result<(), Failed>
     requires { 0 < length steps.now.steps }
-    ensures ok { OnOk result ((mid : DeskState) × Starts (D.state desk.old) mid name.now × Writes mid (D.state desk.new) (log_text steps.now)) }
-    ensures err { OnErr result (FailsToWrite (D.state desk.old) (D.state desk.new) name.now (log_text steps.now)) }
+    ensures ok { OnOk result ((mid : DeskState) × Starts (D.state desk.old) mid name.now
+        × Writes mid (D.state desk.new) (log_text steps.now)) }
+    ensures err { OnErr result (FailsToWrite
+        (D.state desk.old) (D.state desk.new) name.now (log_text steps.now)) }
 {
     desk.start(name)?;
     put_proof(steps, desk)
@@ -115,7 +120,8 @@ fn put_proof<D: Desk>(steps: &Steps, desk: &mut D) -> Result<(), Failed>
     requires some { 0 < length steps.now.steps }
     requires started { IsSome (D.state desk.old).started }
     ensures ok { OnOk result (Writes (D.state desk.old) (D.state desk.new) (log_text steps.now)) }
-    ensures err { OnErr result (WritesFront (D.state desk.old) (D.state desk.new) (log_text steps.now)) }
+    ensures err { OnErr result (WritesFront
+        (D.state desk.old) (D.state desk.new) (log_text steps.now)) }
 {
     let mut piece = Piece::to_file();
     match write_steps(steps, &mut piece, desk) {
@@ -126,7 +132,8 @@ fn put_proof<D: Desk>(steps: &Steps, desk: &mut D) -> Result<(), Failed>
 
 // Says why a file wasn't read.
 fn say_unread<D: Desk>(name: &str, fault: Unread, desk: &mut D) -> SatStatus
-    ensures { (of : Option Formula) (old : DeskState) → LeavesUnread of old (D.state desk.old) name.now fault
+    ensures { (of : Option Formula) (old : DeskState)
+        → LeavesUnread of old (D.state desk.old) name.now fault
         → Unanswered of name.now old (D.state desk.new) result }
 {
     match fault {

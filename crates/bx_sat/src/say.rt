@@ -3,10 +3,10 @@
 ghost use Rattle.std.specs.Prelude.{List, Bool, ◌≡◌, ◌+◌, ◌≤◌, [], ◌∷◌, length, decimal, IfOk};
 ghost use Rattle.bx_desk.specs.Desk.{CanPut};
 ghost use Rattle.bx_desk.specs.Pieces.{pending, target_of, IsToSay, PutsOut};
-ghost use Rattle.bx_sat.specs.Answers.{verdict_status, verdict_text, answer_status, answer_text};
-ghost use Rattle.bx_sat.specs.Sayings.{EndsSaying, failure_text, bad_line_text, solution_text, sign_text, start_text, value_word, placed, column_behind};
+ghost use Rattle.bx_sat.specs.Answers.{finding_status, finding_text, answer_status, answer_text};
+ghost use Rattle.bx_sat.specs.Sayings.{EndsSaying, failure_text, bad_line_text, solution_text, sign_text, start_text, value_word, word_behind, column_behind};
 
-use crate::checking::Verdict;
+use crate::checking::Finding;
 use crate::solving::Answer;
 use crate::status::SatStatus;
 use bx_desk::{Desk, Failed, Piece};
@@ -26,20 +26,24 @@ pub(crate) fn say<D: Desk>(text: &[u8], status: SatStatus, desk: &mut D) -> SatS
 }
 
 /// Says what a proof is.
-pub(crate) fn say_verdict<D: Desk>(verdict: Verdict, desk: &mut D) -> SatStatus
-    ensures { EndsSaying (D.state desk.old) (D.state desk.new) (verdict_status verdict) (verdict_text verdict) result }
+pub(crate) fn say_finding<D: Desk>(finding: Finding, desk: &mut D) -> SatStatus
+    ensures { EndsSaying
+        (D.state desk.old) (D.state desk.new)
+        (finding_status finding) (finding_text finding) result }
 {
-    match verdict {
-        Verdict::Verified => say(b"s VERIFIED\n", SatStatus::Verified, desk),
-        Verdict::Fails(id) => say_failure(id, desk),
-        Verdict::Open => say(b"s NOT VERIFIED\n", SatStatus::NotVerified, desk),
+    match finding {
+        Finding::Verified => say(b"s VERIFIED\n", SatStatus::Verified, desk),
+        Finding::Fails(id) => say_failure(id, desk),
+        Finding::Open => say(b"s NOT VERIFIED\n", SatStatus::NotVerified, desk),
     }
 }
 
 /// Says what is known of a formula; of a solution the values of so many variables, which it has.
 pub(crate) fn say_answer<D: Desk>(answer: &Answer, vars: u32, desk: &mut D) -> SatStatus
     requires { (bits : List Bool) → answer.now ≡ Answer.Satisfiable bits → vars ≤ length bits }
-    ensures { EndsSaying (D.state desk.old) (D.state desk.new) (answer_status answer.now) (answer_text vars answer.now) result }
+    ensures { EndsSaying
+        (D.state desk.old) (D.state desk.new)
+        (answer_status answer.now) (answer_text vars answer.now) result }
 {
     match answer {
         Answer::Satisfiable(bits) => say_solution(&bits.as_slice()[..vars as usize], desk),
@@ -50,7 +54,8 @@ pub(crate) fn say_answer<D: Desk>(answer: &Answer, vars: u32, desk: &mut D) -> S
 
 // Says that a proof isn't verified, and the id of the first step that fails.
 fn say_failure<D: Desk>(id: u64, desk: &mut D) -> SatStatus
-    ensures { EndsSaying (D.state desk.old) (D.state desk.new) SatStatus.NotVerified (failure_text id) result }
+    ensures { EndsSaying
+        (D.state desk.old) (D.state desk.new) SatStatus.NotVerified (failure_text id) result }
 {
     let mut piece = Piece::to_say();
     match put_line(b"s NOT VERIFIED", &[Word::Number(id)], &mut piece, desk) {
@@ -61,7 +66,9 @@ fn say_failure<D: Desk>(id: u64, desk: &mut D) -> SatStatus
 
 /// Says which line of a file is the first that can't be read.
 pub(crate) fn say_bad_line<D: Desk>(name: &str, line: u64, desk: &mut D) -> SatStatus
-    ensures { EndsSaying (D.state desk.old) (D.state desk.new) SatStatus.BadLine (bad_line_text name.now line) result }
+    ensures { EndsSaying
+        (D.state desk.old) (D.state desk.new)
+        SatStatus.BadLine (bad_line_text name.now line) result }
 {
     let mut piece = Piece::to_say();
     let words = [
@@ -77,7 +84,9 @@ pub(crate) fn say_bad_line<D: Desk>(name: &str, line: u64, desk: &mut D) -> SatS
 
 // Says that there is a solution, and its values.
 fn say_solution<D: Desk>(bits: &[bool], desk: &mut D) -> SatStatus
-    ensures { EndsSaying (D.state desk.old) (D.state desk.new) SatStatus.Satisfiable (solution_text bits.now) result }
+    ensures { EndsSaying
+        (D.state desk.old) (D.state desk.new)
+        SatStatus.Satisfiable (solution_text bits.now) result }
 {
     let mut piece = Piece::to_say();
     match put_solution(bits, &mut piece, desk) {
@@ -100,7 +109,8 @@ fn end<D: Desk>(mut piece: Piece, status: SatStatus, desk: &mut D) -> SatStatus
 // Puts out that there is a solution, and its values.
 fn put_solution<D: Desk>(bits: &[bool], piece: &mut Piece, desk: &mut D) -> Result<(), Failed>
     requires { CanPut (target_of piece.old) (D.state desk.old) }
-    ensures { PutsOut (D.state desk.old) (D.state desk.new) result piece.old piece.new (solution_text bits.now) }
+    ensures { PutsOut
+        (D.state desk.old) (D.state desk.new) result piece.old piece.new (solution_text bits.now) }
 {
     piece.put(b"s SATISFIABLE\nv", desk)?;
     let mut column = 1;
@@ -122,8 +132,11 @@ fn put_value<D: Desk>(
 ) -> Result<usize, Failed>
     requires can { CanPut (target_of piece.old) (D.state desk.old) }
     requires column { column ≤ 78 }
-    ensures puts_out { PutsOut (D.state desk.old) (D.state desk.new) result piece.old piece.new (placed column (value_word number value)) }
-    ensures column { IfOk result (λ behind. (behind ≡ column_behind column (value_word number value)) × (behind ≤ 78)) }
+    ensures puts_out { PutsOut
+        (D.state desk.old) (D.state desk.new)
+        result piece.old piece.new (word_behind column (value_word number value)) }
+    ensures column { IfOk result (λ behind. (behind
+        ≡ column_behind column (value_word number value)) × (behind ≤ 78)) }
 {
     let mut buffer = itoa::Buffer::new();
     let digits = buffer.format(number).as_bytes();

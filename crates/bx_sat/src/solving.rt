@@ -1,8 +1,8 @@
 //! Whether a formula has a solution, within a budget.
 ghost use Rattle.std.specs.Prelude.{◌≡◌, List, Bool, IfOk};
 ghost use Rattle.bx_cnf.specs.Formulas.{AllTrue};
-ghost use Rattle.bx_proof.specs.Steps.{StepList};
-ghost use Rattle.bx_sat.specs.Findings.{used, IsEnd, IsRight};
+ghost use Rattle.bx_proof.specs.Steps.{StepList, AreSteps};
+ghost use Rattle.bx_sat.specs.Solving.{usable_budget, IsEnd, IsRight};
 
 use bx_cnf::{Bits, Clauses};
 use bx_logic::NoMemory;
@@ -32,8 +32,8 @@ pub enum Answer {
 /// `NoMemory`.
 pub fn decide(alloc: Global, clauses: &Clauses, budget: u64) -> Result<Answer, NoMemory>
     // It is the end of the search, within what is used of the budget.
-    ensures ended { IfOk result (IsEnd clauses.now (used clauses.now budget)) }
-    // Bits that it gives make all clauses true, and a log that it gives is accepted.
+    ensures ended { IfOk result (IsEnd clauses.now (usable_budget clauses.now budget)) }
+    // Bits that it gives make all clauses true, and a log that it gives is accepted, and can be written.
     ensures found { IfOk result (IsRight clauses.now) }
     ensures refuted { IfOk result (λ answer. (log : StepList) → answer ≡ Answer.Unsatisfiable log
         → (bits : List Bool) → AllTrue bits clauses.now.clauses → ⊥) }
@@ -42,9 +42,19 @@ pub fn decide(alloc: Global, clauses: &Clauses, budget: u64) -> Result<Answer, N
     let mut pulse = Steady::new();
     match solve(alloc, clauses, budget.min(most), &mut pulse)? {
         Outcome::Sat(bits) => Ok(Answer::Satisfiable(bits)),
-        Outcome::Unsat(steps) => Ok(Answer::Unsatisfiable(steps)),
+        Outcome::Unsat(steps) => Ok(refuted(steps)),
         Outcome::Undecided(_) => Ok(Answer::Unknown),
         // Nothing stops it: a steady pulse says yes more often than the budget pays for steps.
         Outcome::Stopped => unreachable!(),
     }
+}
+
+// Steps of which each has a form that can be written: a store of steps holds that of all that it has, which
+// its length tells.
+fn refuted(steps: Steps) -> Answer
+    ensures answer { result ≡ Answer.Unsatisfiable steps }
+    ensures formed { AreSteps steps.first steps.steps }
+{
+    let _count = steps.len();
+    Answer::Unsatisfiable(steps)
 }

@@ -2,7 +2,7 @@
 
 use crate::asserts::{is_found, is_text};
 use bx_cnf::{Clauses, Lit};
-use bx_dimacs::{FormulaFault, LratProof, ProofFault, read_formula, read_proof};
+use bx_dimacs::{LratProof, TextFault, read_formula, read_proof};
 use std::alloc::Global;
 use std::test::Fail;
 
@@ -85,8 +85,8 @@ fn the_first_bad_line_of_a_formula_is_told(rt: HostRuntime) {
 // The bad line of a text that is told, and none where a formula is read or memory is refused.
 fn bad_formula_line(alloc: Global, text: &str) -> Option<u64> {
     match read_formula(alloc, text.as_bytes()) {
-        Err(FormulaFault::BadLine(line)) => Some(line),
-        Ok(_) | Err(FormulaFault::NoMemory) => None,
+        Err(TextFault::BadLine(line)) => Some(line),
+        Ok(_) | Err(TextFault::NoMemory) => None,
     }
 }
 
@@ -133,6 +133,18 @@ const PROOFS: &[(&str, &str)] = &[
     ("5 0 1 0\n6 0 5 0\n", "[5] 0 1 0"),
     ("5 0 1 0\nno line of a proof\n", "[5] 0 1 0"),
     ("5 1 0 0\nno line of a proof\n", "ill [5]"),
+    // of a deletion only its front is looked at, and its number needn't ascend
+    (
+        "9 1 0 1 0\n3 d x\n0 d\n10 0 9 0\n",
+        "[9] 1 0 1 0 [10] 0 5 0",
+    ),
+    ("18446744073709551615 d\n5 0 1 0\n", "[5] 0 1 0"),
+    // numbers of 63 bits, and an id of 64
+    (
+        "18446744073709551615 9223372036854775807 0 1 0\n",
+        "ill [18446744073709551615]",
+    ),
+    ("5 1 0 9223372036854775807 0\n", "ill [5]"),
     // no hint, a negative one, and ones that name no clause before
     ("5 0 0\n", "ill [5]"),
     ("5 1 0 1 -2 3 0\n", "ill [5]"),
@@ -160,6 +172,14 @@ const NO_PROOFS: &[(&str, u64)] = &[
     ("5 1 -0 1 0\n", 1),
     ("-5 1 0 1 0\n", 1),
     ("99999999999999999999 1 0 1 0\n", 1),
+    ("18446744073709551616 d 1 0\n", 1),
+    ("5 9223372036854775808 0 1 0\n", 1),
+    ("5 1 0 -9223372036854775808 0\n", 1),
+    ("x d 1 0\n", 1),
+    ("d 1 0\n", 1),
+    // a step without its 0, over two lines, and with a word too many behind an empty clause
+    ("5 1 0 1 0\n6 2\n0 1 0\n", 2),
+    ("5 1 0 1 0\n\n6 0 5 0 c\n", 3),
     // ids that don't ascend, from above those of the formula
     ("4 1 0 1 0\n", 1),
     ("6 1 0 1 0\n6 2 0 1 0\n", 2),
@@ -193,8 +213,8 @@ fn four_clauses(alloc: Global) -> Result<Clauses, Fail> {
 fn bad_proof_line(alloc: Global, text: &str) -> Result<Option<u64>, Fail> {
     let clauses = four_clauses(alloc)?;
     Ok(match read_proof(alloc, &clauses, text.as_bytes()) {
-        Err(ProofFault::BadLine(line)) => Some(line),
-        Ok(_) | Err(ProofFault::NoMemory) => None,
+        Err(TextFault::BadLine(line)) => Some(line),
+        Ok(_) | Err(TextFault::NoMemory) => None,
     })
 }
 
@@ -237,31 +257,17 @@ fn push_hints(alloc: Global, hints: &[u32], text: &mut String) -> Result<(), Fai
 
 // ---- Faults
 
-// What is said of the faults of a formula and of a proof.
-fn messages(alloc: Global, formula: FormulaFault, proof: ProofFault) -> Result<String, Fail> {
-    Ok(format!(in alloc; "{formula}, {proof}")?)
-}
+// A fault, and what is said of it.
+const FAULTS: &[(TextFault, &str)] = &[
+    (TextFault::BadLine(3), "line 3 can't be read"),
+    (TextFault::NoMemory, "out of memory"),
+];
 
 #[test]
-fn bad_lines_are_said(rt: HostRuntime) -> Result<(), Fail> {
-    let said = messages(rt.alloc(), FormulaFault::BadLine(3), ProofFault::BadLine(4))?;
-    is_text(
-        &rt,
-        "bad lines",
-        said.as_str(),
-        "line 3 is no line of a formula, line 4 is no line of a proof",
-    );
-    Ok(())
-}
-
-#[test]
-fn want_of_memory_is_said(rt: HostRuntime) -> Result<(), Fail> {
-    let said = messages(rt.alloc(), FormulaFault::NoMemory, ProofFault::NoMemory)?;
-    is_text(
-        &rt,
-        "no memory",
-        said.as_str(),
-        "out of memory, out of memory",
-    );
+fn faults_are_said(rt: HostRuntime) -> Result<(), Fail> {
+    for &(fault, wanted) in FAULTS {
+        let said = format!(in rt.alloc(); "{fault}")?;
+        is_text(&rt, "a fault", said.as_str(), wanted);
+    }
     Ok(())
 }

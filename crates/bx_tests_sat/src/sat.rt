@@ -155,6 +155,14 @@ const CHECKED: &[(&str, u8, &str)] = &[
     ("7 1 0 1 9 0\n9 0 7 4 5 0\n", 1, "s NOT VERIFIED 7\n"),
     ("7 1 0 1 2 0\n9 0 7 -4 5 0\n", 1, "s NOT VERIFIED 9\n"),
     ("7 1 0 1 2 0\n9 0 0\n", 1, "s NOT VERIFIED 9\n"),
+    // a variable that the formula hasn't, a tautology, and the two variables of one, which it has
+    ("7 5 0 1 2 0\n9 0 7 4 5 0\n", 1, "s NOT VERIFIED 7\n"),
+    ("7 1 -1 0 1 2 0\n9 0 7 4 5 0\n", 1, "s NOT VERIFIED 7\n"),
+    (
+        "7 1 4 0 1 2 0\n9 1 0 1 2 0\n12 0 9 4 5 0\n",
+        0,
+        "s VERIFIED\n",
+    ),
     // the first of two that fail
     ("7 2 0 1 0\n9 0 7 0\n", 1, "s NOT VERIFIED 7\n"),
     (
@@ -208,6 +216,14 @@ const FAILING: &[(&str, u8)] = &[
     ("check f.cnf none.lrat", 4),
     ("solve f.cnf 1000 none/p.lrat", 4),
 ];
+
+// Words that are no command say what the words are.
+#[test]
+fn the_usage_is_said(rt: HostRuntime) -> Result<(), Fail> {
+    let said = "the words are check FORMULA PROOF or solve FORMULA BUDGET [PROOF]\n";
+    let desk = desk_with(rt.alloc(), SQUARE)?;
+    ends(&rt, rt.alloc(), "usage", desk, "prove f.cnf", 6, said)
+}
 
 // Where a file fails nothing is said.
 #[test]

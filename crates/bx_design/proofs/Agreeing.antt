@@ -1,6 +1,6 @@
 -- Permits that allow the same of the table's forms: their formulas are the same, and so are their verdicts and
--- designs, and the layouts that are legal under them.
-use Rattle.std.proofs.Common.{◌≡◌, ℕ, ◌<◌, Bool, not, List, [], ◌∷◌, ◌++◌, length, filter, inl, inr, refl, ap, ap₂, subst, cond}
+-- solutions, and the layouts that are legal under them.
+use Rattle.std.proofs.Common.{◌≡◌, ℕ, ◌<◌, Bool, not, List, [], ◌∷◌, ◌++◌, length, filter, Option, inl, inr, refl, ap, ap₂, subst, cond}
 use Rattle.std.specs.List.{range_with_len}
 use Rattle.std.specs.Prelude.{flat_map}
 use Rattle.bx_logic.proofs.Members.{Member, Contains-from_member}
@@ -16,16 +16,15 @@ use Rattle.bx_grid.specs.declared.ratio.Limits.{Limits}
 use Rattle.bx_grid.specs.declared.ratio.Ratio.{Ratio}
 use Rattle.bx_layout.specs.Permits.{PermitTest}
 use Rattle.bx_network.specs.Networks.{Network}
-use Rattle.bx_proof.specs.declared.refutation.Refutation.{Refutation}
 use Rattle.bx_proof.specs.declared.refutation.Refutation.TheVariants.{Count, Clauses}
-use Rattle.bx_verdict.specs.Settling.{IsLast, AreSettled}
+use Rattle.bx_verdict.specs.Settling.{HasVerdict, IsLastAt}
 use Rattle.bx_verdict.specs.Verdicts.{IsEndOf, IsVerdict}
 use Rattle.bx_verdict.specs.declared.settled.Last.{Last}
-use Rattle.bx_verdict.specs.declared.settled.Last.TheVariants.{Found as FoundLast, Undecided as UndecidedLast, NoneWithin as NoneLast}
-use Rattle.bx_verdict.specs.declared.verdict.Verdict.{Verdict}
-use Rattle.bx_verdict.specs.declared.verdict.Verdict.TheVariants.{Refuted, Found, Undecided}
-use Rattle.bx_design.specs.declared.ending.Ending.{Ending}
-use Rattle.bx_design.specs.Designs.{IsDesign}
+use Rattle.bx_verdict.specs.declared.settled.Last.TheVariants as last
+use Rattle.bx_verdict.specs.declared.verdict.Ended.{Ended}
+use Rattle.bx_verdict.specs.declared.verdict.Ended.TheVariants.{Refuted, Found, Undecided}
+use Rattle.bx_design.specs.declared.solution.LaidOut.{LaidOut}
+use Rattle.bx_design.specs.Solutions.{IsSolution}
 
 -- the permits allow the same of the table's forms
 abbrev pub Agree : PermitTest → PermitTest → Type 0
@@ -54,33 +53,31 @@ module _ (N : Network) (permit other : PermitTest) (agree : Agree permit other) 
   unfolding formula
   formula-same r = ap (λ (cs : List Clause). record { vars = variable_count N r; clauses = place_clauses N r ++ border_clauses N r ++ way_clauses N r ++ cs }) (permitted-same r)
 
-  ended : (r : Ratio) (budget : ℕ) (verdict : Verdict) → IsEndOf (formula N permit r) budget verdict → IsEndOf (formula N other r) budget verdict
+  ended : (r : Ratio) (budget : ℕ) (verdict : Ended) → IsEndOf (formula N permit r) budget verdict → IsEndOf (formula N other r) budget verdict
   ended r budget verdict ends = subst (λ (f : Formula). IsEndOf f budget verdict) (formula-same r) ends
 
-  verdict-same : (r : Ratio) (budget : ℕ) (verdict : Verdict) → IsVerdict N permit r budget verdict → IsVerdict N other r budget verdict
+  verdict-same : (r : Ratio) (budget : ℕ) (verdict : Ended) → IsVerdict N permit r budget verdict → IsVerdict N other r budget verdict
   verdict-same r budget (Refuted (Count proof)) is = is
   verdict-same r budget (Refuted (Clauses steps)) is = (is.0, ended r budget (Refuted (Clauses steps)) is.1)
   verdict-same r budget (Found bits) is = (is.0, ended r budget (Found bits) is.1)
   verdict-same r budget (Undecided spent) is = (is.0, ended r budget (Undecided spent) is.1)
 
-  last-same : (budget : ℕ) (ratios : List Ratio) (last : Last) → IsLast N permit budget ratios last → IsLast N other budget ratios last
-  last-same budget [] (FoundLast q bits) is = absurd is
-  last-same budget [] (UndecidedLast q spent) is = absurd is
-  last-same budget [] NoneLast is = tt
-  last-same budget (r ∷ ratios) (FoundLast q bits) is = (is.0, verdict-same r budget (Found bits) is.1)
-  last-same budget (r ∷ ratios) (UndecidedLast q spent) is = (is.0, verdict-same r budget (Undecided spent) is.1)
-  last-same budget (r ∷ ratios) NoneLast is = absurd is
+  has-same : (budget : ℕ) (ratios : List Ratio) (k : ℕ) (end : Ended) → HasVerdict N permit budget ratios k end → HasVerdict N other budget ratios k end
+  has-same budget ratios k end has = record { ratio = has.ratio; at = has.at; is = verdict-same has.ratio budget end has.is }
 
-  settled-same : (budget : ℕ) (ratios : List Ratio) (proofs : List Refutation) (last : Last) → AreSettled N permit budget ratios proofs last → AreSettled N other budget ratios proofs last
-  settled-same budget ratios [] last are = last-same budget ratios last are
-  settled-same budget [] (proof ∷ proofs) last are = absurd are
-  settled-same budget (r ∷ ratios) (proof ∷ proofs) last are = (verdict-same r budget (Refuted proof) are.0, settled-same budget ratios proofs last are.1)
+  last-same : (budget : ℕ) (ratios : List Ratio) (k : ℕ) (last : Last) → IsLastAt N permit budget ratios k last → IsLastAt N other budget ratios k last
+  last-same budget ratios k (last.Found bits) has = has-same budget ratios k (Found bits) has
+  last-same budget ratios k (last.Undecided spent) has = has-same budget ratios k (Undecided spent) has
+  last-same budget ratios k last.NoneWithin is = is
 
-  pub design-same : (limits : Limits) (budget : ℕ) (cert : Certificate) (end : Ending) → IsDesign N permit limits budget cert end → IsDesign N other limits budget cert end
-  design-same limits budget cert end is = record {
+  pub solution-same : (limits : Limits) (budget : ℕ) (cert : Certificate) (found : Option LaidOut) → IsSolution N permit limits budget cert found → IsSolution N other limits budget cert found
+  solution-same limits budget cert found is = record {
     proofs = is.proofs;
     last = is.last;
-    settled = settled-same budget (order limits) is.proofs is.last is.settled;
-    ends = is.ends;
+    settled = record {
+      refuted = λ k proof at. has-same budget (order limits) k (Refuted proof) (is.settled.refuted k proof at);
+      last_at = last-same budget (order limits) (length is.proofs) is.last is.settled.last_at;
+    };
+    tells = is.tells;
     certified = is.certified;
   }

@@ -1,28 +1,30 @@
--- The certificate of a design keeps its ranges: its ratios have sides from 1 to 144, its steps are steps, and its
+-- The certificate of a solution keeps its ranges: its ratios have sides from 1 to 144, its steps are steps, and its
 -- other numbers are small.
-use Rattle.std.proofs.Common.{◌≡◌, ℕ, zero, suc, ◌+◌, ◌-◌, ◌*◌, ◌<◌, ◌≤◌, ◌^◌, List, [], ◌∷◌, ◌++◌, length, get_or, map, take, Some, None, inl, inr, refl, sym, ap, ◌∙◌, subst, arith, length-append}
+use Rattle.std.proofs.Common.{◌≡◌, ℕ, zero, suc, ◌+◌, ◌-◌, ◌<◌, ◌≤◌, List, [], ◌∷◌, ◌++◌, length, get_or, map, take, Option, Some, None, inl, inr, refl, sym, ap, ◌∙◌, subst, arith, length-append}
 use Rattle.std.specs.Prelude.{All, slice_get}
 use Rattle.std.specs.List.{AllByRecursion}
 use Rattle.std.proofs.Math.Nat.{div-le_self}
 use Rattle.std.proofs.lemmas.List.{length-map, length-take}
-use Rattle.std.proofs.lemmas.Option.{get_or_from_slice_get, slice_get_within}
+use Rattle.std.proofs.lemmas.Option.{same_Some, get_or_from_slice_get, slice_get_within}
 use Rattle.bx_bounds.specs.Refutes.{Refutes}
-use Rattle.bx_cert.specs.Certs.{Certificate, IsCert, IsCount, IsLast, IsRatio, IsRefutation, IsSection, IsSpot, AreSomeSteps}
-use Rattle.bx_cert.specs.declared.parts.TheConstants.{MOST_BUDGET}
+use Rattle.bx_grid.specs.Orders.{AreLimits, IsRatio, IsWithin, order}
+use Rattle.bx_cert.specs.Certs.{Certificate, IsCert, IsCount, IsLast, IsRefutation, IsSection, IsSpot, AreSomeSteps}
+use Rattle.bx_cert.specs.declared.parts.CertLast.{CertLast}
+use Rattle.bx_cert.specs.declared.parts.CertLast.TheVariants.{Found, Undecided, NoneWithin}
+use Rattle.bx_cert.specs.declared.parts.TheConstants.{MOST_CERT_BUDGET}
 use Rattle.bx_cnf.specs.Formulas.{Formula, AscendAbove, IsFormula}
 use Rattle.bx_cnf.specs.Literals.{Literal}
 use Rattle.bx_encode.specs.Formula.{formula}
 use Rattle.bx_encode.specs.Sizes.{IsFrame}
 use Rattle.bx_encode.specs.declared.numbers.TheConstants.{MOST_NODES}
-use Rattle.bx_grid.specs.Orders.{AreLimits, IsWithin, order}
 use Rattle.bx_grid.specs.Tiles.{IsTile, tile_count}
 use Rattle.bx_grid.specs.declared.count.CountProof.{CountProof}
 use Rattle.bx_grid.specs.declared.count.CountProof.TheVariants.{Late, Crowd, Cut, Pair}
 use Rattle.bx_grid.specs.declared.ratio.Limits.{Limits}
 use Rattle.bx_grid.specs.declared.ratio.Ratio.{Ratio}
-use Rattle.bx_grid.proofs.Orders.{order_is_exact}
 use Rattle.bx_layout.specs.Permits.{PermitTest}
-use Rattle.bx_logic.proofs.Members.{Member, Contains-from_member}
+use Rattle.bx_layout.specs.declared.layout.Layout.{Layout}
+use Rattle.bx_logic.proofs.Members.{Member}
 use Rattle.bx_logic.proofs.Ordered.{Member-get_or}
 use Rattle.bx_network.specs.Networks.{Network, IsNetwork}
 use Rattle.bx_proof.specs.Accepted.{IsAccepted, LeadsToFalse, with_steps}
@@ -32,21 +34,20 @@ use Rattle.bx_proof.specs.declared.refutation.Refutation.TheVariants.{Count, Cla
 use Rattle.bx_search.specs.Searching.{After, Goes, IsSearch}
 use Rattle.bx_search.specs.Searching.Goes.{Propagates, Decides, Learns}
 use Rattle.bx_search.specs.States.{State, clauses_of}
-use Rattle.bx_search.specs.declared.outcome.Outcome.TheVariants.{Unsat, Undecided as Unfinished}
+use Rattle.bx_search.specs.declared.outcome.Outcome.TheVariants as outcome
 use Rattle.bx_search.proofs.Accepting.{log-accepted}
 use Rattle.bx_search.proofs.Learned.{bounded-after, hinted}
-use Rattle.bx_verdict.proofs.Counting.{clauses-le}
 use Rattle.bx_verdict.specs.Settling.{AreSettled}
 use Rattle.bx_verdict.specs.Verdicts.{IsVerdict}
 use Rattle.bx_verdict.specs.declared.settled.Last.{Last}
-use Rattle.bx_verdict.specs.declared.verdict.Verdict.TheVariants.{Refuted}
-use Rattle.bx_design.specs.declared.ending.Ending.{Ending}
-use Rattle.bx_design.specs.declared.ending.Ending.TheVariants.{Found, Undecided, NoneWithin}
-use Rattle.bx_design.specs.Certificates.{spot_of, sections_of, last_of}
-use Rattle.bx_design.specs.Designs.{IsDesign}
+use Rattle.bx_verdict.specs.declared.verdict.Ended.TheVariants.{Refuted}
+use Rattle.bx_design.specs.declared.solution.LaidOut.{LaidOut}
+use Rattle.bx_design.specs.Certificates.{spot_of, sections_of}
+use Rattle.bx_design.specs.Solutions.{IsSolution}
 use Rattle.bx_design.specs.Meaning.{IsEndAt}
-use Rattle.bx_design.proofs.Formed.{formed}
+use Rattle.bx_encode.proofs.Formed.{clauses-le, formed}
 use Rattle.bx_design.proofs.Minimal.{minimal, frame-of, within-at}
+use Rattle.bx_design.proofs.Sections.{section-at}
 
 -- ---- the steps of a search
 
@@ -56,6 +57,10 @@ Ascends step = AscendAbove 0 step.literals
 all-push : {X : Type 0} (P : X → Type 0) (xs : List X) (x : X) → AllByRecursion P xs → P x → AllByRecursion P (xs ++ x ∷ [])
 all-push P [] x are is = (is, tt)
 all-push P (y ∷ ys) x are is = (are.0, all-push P ys x are.1 is)
+
+all-from : {X : Type 0} (P : X → Type 0) (xs : List X) → ((k : ℕ) (x : X) → slice_get xs k ≡ Some x → P x) → AllByRecursion P xs
+all-from P [] each = tt
+all-from P (x ∷ xs) each = (each 0 x refl, all-from P xs (λ k. each (suc k)))
 
 all-at : {X : Type 0} (P : X → Type 0) (xs : List X) (k : ℕ) (x : X) → AllByRecursion P xs → slice_get xs k ≡ Some x → P x
 all-at P [] k x are at = let lost : None ≡ Some x = at in absurd (cc)
@@ -94,7 +99,7 @@ module _ (f : Formula) (budget : ℕ) where
   ascending-after (suc events) s (before, after, goes) = ascending-goes before s goes (ascending-after events before after)
 
   -- a log is no longer than the budget, and its clauses ascend
-  log-short : (count : ℕ) (log : StepList) → IsSearch f budget (Unsat log) count → length log.steps ≤ budget
+  log-short : (count : ℕ) (log : StepList) → IsSearch f budget (outcome.Unsat log) count → length log.steps ≤ budget
   log-short count log search =
       let s : State = search.last in
       let step : Step = search.ends.1 in
@@ -104,12 +109,12 @@ module _ (f : Formula) (budget : ℕ) where
       let same : length log.steps ≡ length (s.steps ++ step ∷ []) = ap (λ (l : StepList). length l.steps) search.ends.5 in
       omega (arith, bounded.0, some, within, same, length-append s.steps (step ∷ []))
 
-  log-ascends : (count : ℕ) (log : StepList) → IsSearch f budget (Unsat log) count → AllByRecursion Ascends log.steps
+  log-ascends : (count : ℕ) (log : StepList) → IsSearch f budget (outcome.Unsat log) count → AllByRecursion Ascends log.steps
   log-ascends count log search =
       subst (λ (l : StepList). AllByRecursion Ascends l.steps) (sym search.ends.5)
       (all-push Ascends search.last.steps search.ends.1 (ascending-after search.events search.last search.after) search.ends.2.learned.ascending)
 
-  log-steps : (count : ℕ) (log : StepList) → IsFormula f → length f.clauses + budget < 4294967296 → IsSearch f budget (Unsat log) count → AreSomeSteps log
+  log-steps : (count : ℕ) (log : StepList) → IsFormula f → length f.clauses + budget < 4294967296 → IsSearch f budget (outcome.Unsat log) count → AreSomeSteps log
   log-steps count log is_formula room search =
       let accepted = log-accepted f budget count log is_formula search in
       record { some = accepted.some; steps = steps-from log.first log.steps (step-at accepted) }
@@ -138,7 +143,7 @@ module _ (f : Formula) (budget : ℕ) where
           }
 
   -- what was spent is within the budget
-  spent-within : (count spent : ℕ) → IsSearch f budget (Unfinished spent) count → spent ≤ budget
+  spent-within : (count spent : ℕ) → IsSearch f budget (outcome.Undecided spent) count → spent ≤ budget
   spent-within count spent search =
       let bounded = bounded-after f budget search.events search.last search.after in
       let same = search.ends.4 in
@@ -172,7 +177,7 @@ spots-are r (t ∷ places) wide small on = (spot-is r t wide small (on 0 t refl)
 
 -- ---- the certificate
 
-module _ (N : Network) (permit : PermitTest) (limits : Limits) (budget : ℕ) (network : IsNetwork N) (few : length N.nodes ≤ MOST_NODES) (are : AreLimits limits) (much : budget ≤ MOST_BUDGET) where
+module _ (N : Network) (permit : PermitTest) (limits : Limits) (budget : ℕ) (network : IsNetwork N) (few : length N.nodes ≤ MOST_NODES) (are : AreLimits limits) (much : budget ≤ MOST_CERT_BUDGET) where
   small-tiles : (r : Ratio) → IsWithin limits r → tile_count r ≤ 144
   small-tiles r within = let area : tile_count r ≤ limits.area = within.area in let most : limits.area ≤ 144 = are.area in omega arith
 
@@ -183,32 +188,30 @@ module _ (N : Network) (permit : PermitTest) (limits : Limits) (budget : ℕ) (n
       let count = clauses-le N r frame permit in
       log-steps (formula N permit r) budget learned log (formed N r frame permit) (omega arith) search
 
-  sections-are : (ratios : List Ratio) (proofs : List Refutation) (last : Last) → ((r : Ratio) → Member r ratios → IsWithin limits r)
-      → AreSettled N permit budget ratios proofs last → AllByRecursion IsSection (sections_of ratios proofs)
-  sections-are [] proofs last all settled = tt
-  sections-are (r ∷ ratios) [] last all settled = tt
-  sections-are (r ∷ ratios) (p ∷ proofs) last all settled =
-      let within = all r (inl refl) in
-      (record { ratio = ratio-is limits r are within; proof = refutation-is r p within settled.0 }, sections-are ratios proofs last (λ q on. all q (inr on)) settled.1)
+  sections-are : (proofs : List Refutation) (last : Last) → AreSettled N permit budget (order limits) proofs last → AllByRecursion IsSection (sections_of (order limits) proofs)
+  sections-are proofs last settled = all-from IsSection (sections_of (order limits) proofs) (λ k s at.
+      let (here, own) = section-at (order limits) proofs k s at in
+      let has = settled.refuted k s.proof own in
+      let within = within-at limits k s.ratio here in
+      let verdict = subst (λ (r : Ratio). IsVerdict N permit r budget (Refuted s.proof)) (same_Some has.ratio s.ratio (sym has.at ∙ here)) has.is in
+      record { ratio = ratio-is limits s.ratio are within; proof = refutation-is s.ratio s.proof within verdict })
 
-  last-is : (k : ℕ) (end : Ending) → IsEndAt N permit limits budget k end → IsLast (last_of end)
-  last-is k (Found L g) at =
-      let within = within-at limits k L.ratio at.0 in
-      (ratio-is limits L.ratio are within, spots-are L.ratio L.places within.wide (small-tiles L.ratio within) at.1.legal.placed.inside)
-  last-is k (Undecided r spent) (at, (none, (learned, search))) =
+  last-is : (k : ℕ) (last : CertLast) (found : Option LaidOut) → IsEndAt N permit limits budget k last found → IsLast last
+  last-is k (Found r spots) found (at, with) =
+      let within = within-at limits k r at in
+      let L : Layout = with.laid.layout in
+      let inside = subst (IsWithin limits) (sym with.sides) within in
+      (ratio-is limits r are within, subst (AllByRecursion IsSpot) (sym with.places) (spots-are L.ratio L.places inside.wide (small-tiles L.ratio inside) with.is.legal.placed.inside))
+  last-is k (Undecided r spent) found (at, none, (uncounted, (learned, search))) =
       let within = within-at limits k r at in
       let low = spent-within (formula N permit r) budget learned spent search in
       (ratio-is limits r are within, omega arith)
-  last-is k NoneWithin at = tt
+  last-is k NoneWithin found at = tt
 
-pub certified : (N : Network) (permit : PermitTest) (limits : Limits) (budget : ℕ) (cert : Certificate) (end : Ending)
-    → IsNetwork N → length N.nodes ≤ MOST_NODES → AreLimits limits → budget ≤ MOST_BUDGET → IsDesign N permit limits budget cert end → IsCert cert
-certified N permit limits budget cert end network few are much design =
-    let within : (r : Ratio) → Member r (order limits) → IsWithin limits r = λ r on. (order_is_exact limits r).0 (Contains-from_member r (order limits) on) in
-    let is = minimal N permit limits budget cert end network few are design in
-    subst IsCert (sym design.certified) (record {
-      limits = are;
-      budget = much;
-      sections = sections-are N permit limits budget network few are much (order limits) design.proofs design.last within design.settled;
-      last = last-is N permit limits budget network few are much (length cert.sections) end is.end_at;
-    })
+  pub certified : (cert : Certificate) (found : Option LaidOut) → IsSolution N permit limits budget cert found → IsCert cert
+  certified cert found is = subst IsCert (sym is.certified) (record {
+    limits = are;
+    budget = much;
+    sections = sections-are is.proofs is.last is.settled;
+    last = last-is (length cert.sections) cert.last found (minimal N permit limits budget network few are cert found is).end_at;
+  })

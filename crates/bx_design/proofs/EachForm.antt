@@ -1,12 +1,11 @@
 -- Under a permit that bars no form of the table the same layouts are legal as under that of all forms.
 use Rattle.std.specs.Prelude.{◌↔◌}
 use Rattle.bx_grid.specs.declared.ratio.Ratio.{Ratio}
-use Rattle.bx_layout.specs.Legal.{IsLegal}
+use Rattle.bx_layout.specs.Legal.{IsLegal, LacksLayout}
 use Rattle.bx_layout.specs.Permits.{PermitTest, all_forms}
 use Rattle.bx_layout.specs.declared.layout.Layout.{Layout}
 use Rattle.bx_layout.proofs.Permitted.{under-all}
 use Rattle.bx_network.specs.Networks.{Network}
-use Rattle.bx_verdict.specs.Refutations.{LacksLayout}
 use Rattle.bx_design.specs.Permits.{AllowsEachForm}
 use Rattle.bx_design.proofs.Grids.{has-form}
 

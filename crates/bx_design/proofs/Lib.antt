@@ -1,9 +1,9 @@
 pub mod Grids
-pub mod OneDesign
+pub mod OneSolution
 pub mod Agreeing
 pub mod EachForm
-pub mod Formed
 pub mod Sections
 pub mod Minimal
-pub mod Kept
 pub mod Certified
+pub mod Finding
+pub mod Existence

@@ -1,10 +1,10 @@
--- The certificate of a design refutes each ratio before the end's, and what was found is worth what it should be.
-use Rattle.std.proofs.Common.{◌≡◌, ℕ, zero, suc, ◌<◌, ◌≤◌, List, [], ◌∷◌, length, Some, inl, inr, refl, sym, ap, ◌∙◌, subst, arith}
+-- The certificate of a solution refutes each ratio before the last, and what was found is worth what it should be.
+use Rattle.std.proofs.Common.{◌≡◌, ℕ, ◌≤◌, Bool, List, Option, Some, length, refl, sym, ap, ◌∙◌, subst, arith}
 use Rattle.std.specs.Prelude.{slice_get}
-use Rattle.std.proofs.lemmas.Option.{get_or_from_slice_get, slice_get_within}
-use Rattle.bx_logic.proofs.Members.{Member, Contains-from_member}
+use Rattle.std.proofs.lemmas.Option.{same_Some, none-some, get_or_from_slice_get, slice_get_within}
 use Rattle.bx_cert.specs.Certs.{Certificate}
-use Rattle.bx_cert.specs.declared.parts.Section.{Section}
+use Rattle.bx_cert.specs.declared.parts.CertLast.{CertLast}
+use Rattle.bx_cert.specs.declared.parts.CertLast.TheVariants as told
 use Rattle.bx_cnf.specs.Formulas.{IsFormula}
 use Rattle.bx_decode.proofs.Legal.{legal as decoded-legal}
 use Rattle.bx_encode.specs.Formula.{formula}
@@ -16,30 +16,30 @@ use Rattle.bx_grid.specs.Tiles.{IsGrid, tile_count}
 use Rattle.bx_grid.specs.declared.ratio.Limits.{Limits}
 use Rattle.bx_grid.specs.declared.ratio.Ratio.{Ratio}
 use Rattle.bx_grid.proofs.Orders.{order_is_exact}
-use Rattle.bx_layout.specs.Grids.{FormGrid}
 use Rattle.bx_layout.specs.Legal.{IsLegal}
 use Rattle.bx_layout.specs.Permits.{PermitTest}
 use Rattle.bx_layout.specs.TileForms.{IsFormGridOf}
-use Rattle.bx_layout.specs.declared.layout.Layout.{Layout}
 use Rattle.bx_layout.proofs.Computing.{computes as grid-computes}
 use Rattle.bx_layout.proofs.Soundness.{sound as grid-sound}
 use Rattle.bx_network.specs.Networks.{Network, IsNetwork}
 use Rattle.bx_proof.specs.declared.refutation.Refutation.{Refutation}
-use Rattle.bx_verdict.proofs.Meaning.{lacks, verdict-refutes, found-true}
-use Rattle.bx_verdict.specs.Refutations.{LacksLayout}
-use Rattle.bx_verdict.specs.Settling.{AreSettled}
+use Rattle.bx_refutes.specs.Refutations.{AreSections}
+use Rattle.bx_refutes.proofs.Lacking.{sections-lack}
+use Rattle.bx_verdict.proofs.InOrder.{refuted-few}
+use Rattle.bx_verdict.proofs.Meaning.{verdict-refutes, found-true}
+use Rattle.bx_verdict.specs.Settling.{AreSettled, IsLastAt}
 use Rattle.bx_verdict.specs.Verdicts.{IsVerdict}
 use Rattle.bx_verdict.specs.declared.settled.Last.{Last}
-use Rattle.bx_verdict.specs.declared.settled.Last.TheVariants.{Found as FoundLast, Undecided as UndecidedLast, NoneWithin as NoneLast}
-use Rattle.bx_verdict.specs.declared.verdict.Verdict.TheVariants.{Found as FoundHere, Undecided as UndecidedHere}
-use Rattle.bx_design.specs.declared.ending.Ending.{Ending}
-use Rattle.bx_design.specs.declared.ending.Ending.TheVariants.{Found, Undecided, NoneWithin}
-use Rattle.bx_design.specs.Certificates.{sections_of}
-use Rattle.bx_design.specs.Designs.{IsDesign, IsEndingOf}
-use Rattle.bx_design.specs.Meaning.{AreSections, IsLaidOut, IsEndAt, IsMinimal}
-use Rattle.bx_design.proofs.Formed.{formed}
+use Rattle.bx_verdict.specs.declared.settled.Last.TheVariants.{Found, Undecided, NoneWithin}
+use Rattle.bx_verdict.specs.declared.verdict.Ended.{Ended}
+use Rattle.bx_verdict.specs.declared.verdict.Ended.TheVariants as ended
+use Rattle.bx_design.specs.declared.solution.LaidOut.{LaidOut}
+use Rattle.bx_design.specs.Certificates.{sections_of, spots_of}
+use Rattle.bx_design.specs.Solutions.{IsSolution, IsTold, IsToldFound}
+use Rattle.bx_design.specs.Meaning.{IsLaidOut, IsFoundWith, IsEndAt, IsMinimal}
+use Rattle.bx_encode.proofs.Formed.{formed}
 use Rattle.bx_design.proofs.Grids.{whole-grid}
-use Rattle.bx_design.proofs.Sections.{same-some}
+use Rattle.bx_design.proofs.Sections.{section-at, sections-count}
 
 -- ---- ratios of the order
 
@@ -57,88 +57,69 @@ frame-of N limits r network few are within = let (grid, area) = small limits r a
 pub within-at : (limits : Limits) (k : ℕ) (r : Ratio) → slice_get (order limits) k ≡ Some r → IsWithin limits r
 within-at limits k r at = (order_is_exact limits r).0 (k, slice_get_within (order limits) k r at, get_or_from_slice_get (order limits) k r r at)
 
-module _ (N : Network) (permit : PermitTest) (budget : ℕ) where
+module _ (N : Network) (permit : PermitTest) (limits : Limits) (budget : ℕ) (network : IsNetwork N) (few : length N.nodes ≤ MOST_NODES) (are : AreLimits limits) where
+  pub formed-at : (k : ℕ) (r : Ratio) → slice_get (order limits) k ≡ Some r → IsFormula (formula N permit r)
+  formed-at k r at = formed N r (frame-of N limits r network few are (within-at limits k r at)) permit
+
   -- ---- sections
 
-  are-sections : (ratios : List Ratio) (proofs : List Refutation) (last : Last) → ((r : Ratio) → Member r ratios → IsFormula (formula N permit r))
-      → AreSettled N permit budget ratios proofs last → AreSections N permit ratios (sections_of ratios proofs)
-  are-sections [] [] last all are = tt
-  are-sections [] (p ∷ proofs) last all are = tt
-  are-sections (r ∷ ratios) [] last all are = tt
-  are-sections (r ∷ ratios) (p ∷ proofs) last all are =
-      (refl, verdict-refutes N permit r budget p (all r (inl refl)) are.0, are-sections ratios proofs last (λ q on. all q (inr on)) are.1)
-
-  each-lacks : (ratios : List Ratio) (sections : List Section) → IsNetwork N → AreSections N permit ratios sections
-      → (i : ℕ) (r : Ratio) → i < length sections → slice_get ratios i ≡ Some r → LacksLayout N permit r
-  each-lacks ratios [] network are i r low at = absurd (omega arith)
-  each-lacks [] (s ∷ sections) network are i r low at = absurd are
-  each-lacks (q ∷ ratios) (s ∷ sections) network are zero r low at = subst (LacksLayout N permit) (same-some q r at) (lacks N permit q s.proof network are.1)
-  each-lacks (q ∷ ratios) (s ∷ sections) network are (suc i) r low at = each-lacks ratios sections network are.2 i r (omega arith) at
+  are-sections : (proofs : List Refutation) (last : Last) → AreSettled N permit budget (order limits) proofs last → AreSections N permit (order limits) (sections_of (order limits) proofs)
+  are-sections proofs last settled = λ k s at.
+      let (here, own) = section-at (order limits) proofs k s at in
+      let has = settled.refuted k s.proof own in
+      let same : has.ratio ≡ s.ratio = same_Some has.ratio s.ratio (sym has.at ∙ here) in
+      (here, verdict-refutes N permit s.ratio budget s.proof (formed-at k s.ratio here) (subst (λ (r : Ratio). IsVerdict N permit r budget (ended.Refuted s.proof)) same has.is))
 
   -- ---- the last
 
-  -- what is known of the ratio at this index, or there is none at it
-  abbrev pub IsLastAt : List Ratio → ℕ → Last → Type 0
-  IsLastAt ratios k (FoundLast r bits) = (slice_get ratios k ≡ Some r) × IsVerdict N permit r budget (FoundHere bits)
-  IsLastAt ratios k (UndecidedLast r spent) = (slice_get ratios k ≡ Some r) × IsVerdict N permit r budget (UndecidedHere spent)
-  IsLastAt ratios k NoneLast = k ≡ length ratios
-
-  last-next : (r : Ratio) (ratios : List Ratio) (k : ℕ) (last : Last) → IsLastAt ratios k last → IsLastAt (r ∷ ratios) (suc k) last
-  last-next r ratios k (FoundLast q bits) at = at
-  last-next r ratios k (UndecidedLast q spent) at = at
-  last-next r ratios k NoneLast at = ap suc at
-
-  pub last-at : (ratios : List Ratio) (proofs : List Refutation) (last : Last) → AreSettled N permit budget ratios proofs last → IsLastAt ratios (length (sections_of ratios proofs)) last
-  last-at [] [] (FoundLast q bits) is = absurd is
-  last-at [] [] (UndecidedLast q spent) is = absurd is
-  last-at [] [] NoneLast is = refl
-  last-at [] (p ∷ proofs) last is = absurd is
-  last-at (r ∷ ratios) [] (FoundLast q bits) is = (ap (λ (x : Ratio). Some x) (sym is.0), subst (λ (x : Ratio). IsVerdict N permit x budget (FoundHere bits)) (sym is.0) is.1)
-  last-at (r ∷ ratios) [] (UndecidedLast q spent) is = (ap (λ (x : Ratio). Some x) (sym is.0), subst (λ (x : Ratio). IsVerdict N permit x budget (UndecidedHere spent)) (sym is.0) is.1)
-  last-at (r ∷ ratios) [] NoneLast is = absurd is
-  last-at (r ∷ ratios) (p ∷ proofs) last is = last-next r ratios (length (sections_of ratios proofs)) last (last-at ratios proofs last is.1)
-
-  -- ---- the end
-
-  good : (L : Layout) (g : FormGrid) → IsNetwork N → IsLegal N permit L → IsFormGridOf N L g → IsLaidOut N permit L g
-  good L g network is_legal forms = record {
+  laid-out : (laid : LaidOut) → IsLegal N permit laid.layout → IsFormGridOf N laid.layout laid.grid → IsLaidOut N permit laid
+  laid-out laid is_legal forms = record {
     legal = is_legal;
     forms = forms;
-    whole = whole-grid N L g is_legal.grid forms;
-    sound = grid-sound N permit L g network is_legal forms;
-    computes = λ inputs. grid-computes N permit L g inputs network is_legal forms;
+    whole = whole-grid N laid.layout laid.grid is_legal.grid forms;
+    sound = grid-sound N permit laid.layout laid.grid network is_legal forms;
+    computes = λ inputs. grid-computes N permit laid.layout laid.grid inputs network is_legal forms;
   }
 
-  end-at : (limits : Limits) (k : ℕ) (last : Last) (end : Ending) → IsNetwork N → length N.nodes ≤ MOST_NODES → AreLimits limits
-      → IsLastAt (order limits) k last → IsEndingOf N last end → IsEndAt N permit limits budget k end
-  end-at limits k (FoundLast r bits) (Found L g) network few are at ends =
-      let means = ends.0 in
-      let frame = frame-of N limits r network few are (within-at limits k r at.0) in
-      let bits-true = found-true N permit r budget bits (formed N r frame permit) at.1 in
-      let is_legal = decoded-legal N permit r bits L network frame.grid bits-true means in
-      (at.0 ∙ ap (λ (x : Ratio). Some x) (sym means.ratio), good L g network is_legal ends.1)
-  end-at limits k (FoundLast r bits) (Undecided q more) network few are at ends = absurd ends
-  end-at limits k (FoundLast r bits) NoneWithin network few are at ends = absurd ends
-  end-at limits k (UndecidedLast r spent) (Undecided q more) network few are at ends = (
-    at.0 ∙ ap (λ (x : Ratio). Some x) (sym ends.0),
-    subst (λ (x : Ratio). IsVerdict N permit x budget (UndecidedHere more)) (sym ends.0) (subst (λ (n : ℕ). IsVerdict N permit r budget (UndecidedHere n)) (sym ends.1) at.1),
-  )
-  end-at limits k (UndecidedLast r spent) (Found L g) network few are at ends = absurd ends
-  end-at limits k (UndecidedLast r spent) NoneWithin network few are at ends = absurd ends
-  end-at limits k NoneLast NoneWithin network few are at ends = at
-  end-at limits k NoneLast (Found L g) network few are at ends = absurd ends
-  end-at limits k NoneLast (Undecided q more) network few are at ends = absurd ends
+  module _ (k : ℕ) where
+    -- the verdict at an index is that of the ratio there
+    here : (r q : Ratio) (end : Ended) → slice_get (order limits) k ≡ Some r → slice_get (order limits) k ≡ Some q → IsVerdict N permit r budget end → IsVerdict N permit q budget end
+    here r q end at own is = subst (λ (x : Ratio). IsVerdict N permit x budget end) (same_Some r q (sym at ∙ own)) is
 
-pub minimal : (N : Network) (permit : PermitTest) (limits : Limits) (budget : ℕ) (cert : Certificate) (end : Ending)
-    → IsNetwork N → length N.nodes ≤ MOST_NODES → AreLimits limits → IsDesign N permit limits budget cert end → IsMinimal N permit limits budget cert end
-minimal N permit limits budget cert end network few are is = subst (λ (c : Certificate). IsMinimal N permit limits budget c end) (sym is.certified) (record {
-  sections = sections;
-  lacking = each-lacks N permit budget (order limits) (sections_of (order limits) is.proofs) network sections;
-  end_at = end-at N permit budget limits (length (sections_of (order limits) is.proofs)) is.last end network few are (last-at N permit budget (order limits) is.proofs is.last is.settled) is.ends;
-})
-  where
-    each-formed : (r : Ratio) → Member r (order limits) → IsFormula (formula N permit r)
-    each-formed r on = formed N r (frame-of N limits r network few are ((order_is_exact limits r).0 (Contains-from_member r (order limits) on))) permit
+    found-with : (bits : List Bool) (last : CertLast) (found : Option LaidOut) (is : IsToldFound N (order limits) k bits last found) → IsVerdict N permit is.ratio budget (ended.Found bits)
+        → IsFoundWith N permit is.ratio (spots_of is.laid.layout) found
+    found-with bits last found is verdict =
+        let frame = frame-of N limits is.ratio network few are (within-at limits k is.ratio is.at) in
+        let bits-true = found-true N permit is.ratio budget bits (formed-at k is.ratio is.at) verdict in
+        record {
+          laid = is.laid;
+          found_is = is.found_is;
+          sides = is.means.ratio;
+          places = refl;
+          is = laid-out is.laid (decoded-legal N permit is.ratio bits is.laid.layout network frame.grid bits-true is.means) is.forms;
+        }
 
-    sections : AreSections N permit (order limits) (sections_of (order limits) is.proofs)
-    sections = are-sections N permit budget (order limits) is.proofs is.last each-formed is.settled
+    end-at : (last : Last) (end : CertLast) (found : Option LaidOut) → IsLastAt N permit budget (order limits) k last → IsTold N (order limits) k last end found → IsEndAt N permit limits budget k end found
+    end-at (Found bits) end found has is = subst (λ (l : CertLast). IsEndAt N permit limits budget k l found) (sym is.told_is)
+        (is.at, found-with bits end found is (here has.ratio is.ratio (ended.Found bits) has.at is.at has.is))
+    end-at (Undecided spent) end found has is = subst (λ (l : CertLast). IsEndAt N permit limits budget k l found) (sym is.0.told_is)
+        (is.0.at, is.1, here has.ratio is.0.ratio (ended.Undecided spent) has.at is.0.at has.is)
+    end-at NoneWithin end found over is = subst (λ (l : CertLast). IsEndAt N permit limits budget k l found) (sym is.0) (over, is.1)
+
+  pub minimal : (cert : Certificate) (found : Option LaidOut) → IsSolution N permit limits budget cert found → IsMinimal N permit limits budget cert found
+  minimal cert found is =
+      let sections : AreSections N permit (order limits) cert.sections =
+      subst (λ (c : Certificate). AreSections N permit (order limits) c.sections) (sym is.certified) (are-sections is.proofs is.last is.settled) in
+      let count : length cert.sections ≡ length is.proofs =
+      ap (λ (c : Certificate). length c.sections) is.certified ∙ sections-count (order limits) is.proofs (refuted-few N permit budget (order limits) is.proofs is.settled.refuted) in
+      record {
+        sections = sections;
+        lacking = sections-lack N permit (order limits) cert.sections network sections;
+        end_at = subst (λ (n : ℕ). IsEndAt N permit limits budget n cert.last found) (sym count) (end-at (length is.proofs) is.last cert.last found is.settled.last_at is.tells);
+      }
+
+-- where a layout was found, it is worth what it should be
+pub laid-of : (N : Network) (permit : PermitTest) (limits : Limits) (budget k : ℕ) (laid : LaidOut) (last : CertLast) → IsEndAt N permit limits budget k last (Some laid) → IsLaidOut N permit laid
+laid-of N permit limits budget k laid (told.Found r spots) (at, with) = subst (IsLaidOut N permit) (sym (same_Some laid with.laid with.found_is)) with.is
+laid-of N permit limits budget k laid (told.Undecided r spent) (at, none, verdict) = absurd (none-some laid (sym none))
+laid-of N permit limits budget k laid told.NoneWithin (over, none) = absurd (none-some laid (sym none))

@@ -1,4 +1,4 @@
--- The certificate of a design: a section for each ratio that was refuted, in order, and how the search ended.
+-- The certificate of a solution: a section for each ratio that was refuted, in order, and how the search ended.
 use Rattle.std.specs.Prelude.{ℕ, List, [], ◌∷◌, map}
 use Rattle.bx_grid.specs.declared.ratio.Limits.{Limits}
 use Rattle.bx_grid.specs.declared.ratio.Ratio.{Ratio}
@@ -7,18 +7,16 @@ use Rattle.bx_grid.specs.Tiles.{x_of, y_of}
 use Rattle.bx_layout.specs.declared.layout.Layout.{Layout}
 use Rattle.bx_proof.specs.declared.refutation.Refutation.{Refutation}
 use Rattle.bx_cert.specs.Certs.{Certificate}
+use Rattle.bx_cert.specs.declared.parts.CertLast.{CertLast}
 use Rattle.bx_cert.specs.declared.parts.Section.{Section}
 use Rattle.bx_cert.specs.declared.parts.Spot.{Spot}
-use Rattle.bx_cert.specs.declared.parts.CertLast.{CertLast}
-use Rattle.bx_cert.specs.declared.parts.CertLast.TheVariants.{Found as FoundThere, Undecided as UndecidedThere, NoneWithin as NoneThere}
-use Rattle.bx_design.specs.declared.ending.Ending.{Ending}
-use Rattle.bx_design.specs.declared.ending.Ending.TheVariants.{Found, Undecided, NoneWithin}
 
 -- these ratios, each with its refutation
 abbrev pub sections_of : List Ratio → List Refutation → List Section
 sections_of [] proofs = []
 sections_of (r ∷ ratios) [] = []
-sections_of (r ∷ ratios) (proof ∷ proofs) = record { ratio = r; proof = proof } ∷ sections_of ratios proofs
+sections_of (r ∷ ratios) (proof ∷ proofs) =
+    record { ratio = r; proof = proof } ∷ sections_of ratios proofs
 
 -- the column and the row of a tile
 abbrev pub spot_of : Ratio → ℕ → Spot
@@ -28,15 +26,10 @@ spot_of r t = record { x = x_of r t; y = y_of r t }
 abbrev pub spots_of : Layout → List Spot
 spots_of L = map (spot_of L.ratio) L.places
 
-abbrev pub last_of : Ending → CertLast
-last_of (Found L g) = FoundThere L.ratio (spots_of L)
-last_of (Undecided r spent) = UndecidedThere r spent
-last_of NoneWithin = NoneThere
-
-abbrev pub certificate_of : Limits → ℕ → List Refutation → Ending → Certificate
-certificate_of limits budget proofs end = record {
+abbrev pub certificate_of : Limits → ℕ → List Refutation → CertLast → Certificate
+certificate_of limits budget proofs last = record {
   limits = limits;
   budget = budget;
   sections = sections_of (order limits) proofs;
-  last = last_of end;
+  last = last;
 }

@@ -1,5 +1,5 @@
 pub mod Certificates
-pub mod Designs
+pub mod Solutions
 pub mod Making
 pub mod Meaning
 pub mod Permits

@@ -1,18 +1,18 @@
-//! From a network to its design: the ratios are settled in their order, the bits of the one that was found are
-//! read as a layout, and what refuted the others becomes the certificate.
+//! From a network to its solution: the ratios are settled in their order, what refuted them becomes the certificate,
+//! and the bits of the one that was found are read as a layout.
 ghost use Rattle.std.specs.Prelude.{◌≤◌, length, IfOk};
-ghost use Rattle.bx_grid.specs.Orders.{AreLimits};
-ghost use Rattle.bx_layout.specs.Permits.{test_of};
-ghost use Rattle.bx_design.specs.Designs.{IsDesign, IsEndingOf};
+ghost use Rattle.bx_decode.specs.Meaning.{AreTrue, Means};
 ghost use Rattle.bx_design.specs.Making.{IsReadable};
 ghost use Rattle.bx_design.specs.Meaning.{IsMinimal};
+ghost use Rattle.bx_design.specs.Solutions.{IsSolution, IsTold};
+ghost use Rattle.bx_grid.specs.Orders.{AreLimits};
 ghost use Rattle.bx_grid.specs.Tiles.{tile_count, IsGrid};
-ghost use Rattle.bx_decode.specs.Meaning.{AreTrue};
-ghost use Rattle.bx_verdict.specs.declared.settled.Last.TheVariants.{Found as FoundLast};
+ghost use Rattle.bx_layout.specs.Permits.{test_of};
+ghost use Rattle.bx_layout.specs.TileForms.{IsFormGridOf};
 
-use crate::certificate::{last_of, sections_of};
-use crate::ending::Ending;
-use bx_cert::{Cert, MOST_BUDGET};
+use crate::certificate::{make_sections, make_spots};
+use crate::solution::{LaidOut, Solution};
+use bx_cert::{Cert, CertLast, MOST_CERT_BUDGET};
 use bx_cnf::Bits;
 use bx_decode::decode;
 use bx_encode::{MOST_AREA, MOST_NODES};
@@ -20,20 +20,12 @@ use bx_grid::{Limits, Ratio, Ratios};
 use bx_layout::{Permit, form_grid};
 use bx_logic::NoMemory;
 use bx_network::MappedNet;
+use bx_proof::Refutation;
 use bx_verdict::{Last, Settled, settle};
 use std::alloc::Global;
 
-/// How the search for a layout ended, and the certificate of it.
-#[derive(Drop)]
-pub struct Design {
-    /// Why each earlier ratio has no layout, and how the search ended.
-    pub cert: Cert,
-    /// How it ended, with the layout and its forms where one was found.
-    pub end: Ending,
-}
-
-/// The design of a network within these limits: ratios are tried in their order, each within the budget, until
-/// one isn't refuted. One formula and its solver are held at a time.
+/// The solution of a network within these limits: ratios are tried in their order, each within the budget, until one
+/// isn't refuted. One formula and its solver are held at a time.
 ///
 /// # Errors
 ///
@@ -44,51 +36,88 @@ pub fn find_design(
     permit: &Permit,
     limits: Limits,
     budget: u64,
-) -> Result<Design, NoMemory>
+) -> Result<Solution, NoMemory>
     requires nodes { length net.now.nodes ≤ MOST_NODES }
     requires limits { AreLimits limits }
-    requires budget { budget ≤ MOST_BUDGET }
-    ensures exact { IfOk result (λ d. IsDesign net.now (test_of permit.now) limits budget d.cert d.end) }
-    ensures minimal { IfOk result (λ d. IsMinimal net.now (test_of permit.now) limits budget d.cert d.end) }
+    requires budget { budget ≤ MOST_CERT_BUDGET }
+    ensures exact { IfOk result (λ s.
+        IsSolution net.now (test_of permit.now) limits budget s.cert s.found) }
+    ensures minimal { IfOk result (λ s.
+        IsMinimal net.now (test_of permit.now) limits budget s.cert s.found) }
 {
+    // (known from here on: the net is a network)
     let _nodes = net.node_count();
     let ratios = Ratios::new(limits);
     let Settled { refutations, last } = settle(alloc, net, permit, &ratios, budget)?;
-    let end = end_of(alloc, net, permit, last)?;
-    let sections = sections_of(alloc, &ratios, refutations)?;
-    let told = last_of(alloc, &end)?;
-    let cert = Cert::new(limits, budget, sections, told);
-    Ok(Design { cert, end })
+    let told = tell(alloc, net, permit, &ratios, &refutations, last)?;
+    let sections = make_sections(alloc, &ratios, refutations)?;
+    let cert = Cert::new(limits, budget, sections, told.last);
+    Ok(Solution {
+        cert,
+        found: told.found,
+    })
 }
 
-// How the search ended, where this is known of the last ratio.
-fn end_of(alloc: Global, net: &MappedNet, permit: &Permit, last: Last) -> Result<Ending, NoMemory>
+// How the search ended, as a certificate has it, and what was found.
+#[derive(Drop)]
+struct Told {
+    last: CertLast,
+    found: Option<LaidOut>,
+}
+
+// What is known of the ratio behind those that were refuted, with its layout where it was found.
+fn tell(
+    alloc: Global,
+    net: &MappedNet,
+    permit: &Permit,
+    ratios: &Ratios,
+    refuted: &[Refutation],
+    last: Last,
+) -> Result<Told, NoMemory>
     requires nodes { length net.now.nodes ≤ MOST_NODES }
-    requires readable { IsReadable net.now (test_of permit.now) last }
-    ensures { IfOk result (IsEndingOf net.now last) }
+    requires readable { IsReadable net.now (test_of permit.now) ratios.now
+        (length refuted.now) last }
+    ensures { IfOk result (λ told.
+        IsTold net.now ratios.now (length refuted.now) last told.last told.found) }
 {
+    let k = refuted.len() as u64;
     match last {
-        Last::Found(ratio, bits) => found_with(alloc, net, permit, ratio, bits),
-        Last::Undecided(ratio, spent) => Ok(Ending::Undecided(ratio, spent)),
-        Last::NoneWithin => Ok(Ending::NoneWithin),
+        Last::Found(bits) => {
+            let ratio = ratios.at(k);
+            let laid = lay_out(alloc, net, permit, ratio, bits)?;
+            let spots = make_spots(alloc, &laid.layout)?;
+            Ok(Told {
+                last: CertLast::Found(ratio, spots),
+                found: Some(laid),
+            })
+        }
+        Last::Undecided(spent) => Ok(Told {
+            last: CertLast::Undecided(ratios.at(k), spent),
+            found: None,
+        }),
+        Last::NoneWithin => Ok(Told {
+            last: CertLast::NoneWithin,
+            found: None,
+        }),
     }
 }
 
 // The layout that these bits mean, with its forms.
-fn found_with(
+fn lay_out(
     alloc: Global,
     net: &MappedNet,
     permit: &Permit,
     ratio: Ratio,
     bits: Bits,
-) -> Result<Ending, NoMemory>
+) -> Result<LaidOut, NoMemory>
     requires nodes { length net.now.nodes ≤ MOST_NODES }
     requires grid { IsGrid ratio }
     requires area { tile_count ratio ≤ MOST_AREA }
     requires true_bits { AreTrue net.now (test_of permit.now) ratio bits }
-    ensures { IfOk result (IsEndingOf net.now (FoundLast ratio bits)) }
+    ensures means { IfOk result (λ laid. Means net.now ratio bits laid.layout) }
+    ensures forms { IfOk result (λ laid. IsFormGridOf net.now laid.layout laid.grid) }
 {
     let layout = decode(alloc, net, permit, ratio, bits.as_slice())?;
-    let forms = form_grid(alloc, net, &layout)?;
-    Ok(Ending::Found(layout, forms))
+    let grid = form_grid(alloc, net, &layout)?;
+    Ok(LaidOut { layout, grid })
 }

@@ -1,4 +1,4 @@
-//! The design of a network: the layout of least area, and then of least width, within limits, with a certificate
+//! The solution of a network: the layout of least area, and then of least width, within limits, with a certificate
 //! that no ratio before it in the order has one; or the first ratio that the budget leaves undecided; or none.
 //!
 //! What is promised is a function of network, permit, limits and budget, and a law says what it is worth: each
@@ -8,9 +8,9 @@
 #![tactic(auto)]
 
 mod certificate;
-mod ending;
 mod find;
 pub mod laws;
+mod solution;
 
-pub use ending::Ending;
-pub use find::{Design, find_design};
+pub use find::find_design;
+pub use solution::{LaidOut, Solution};

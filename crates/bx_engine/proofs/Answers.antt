@@ -1,41 +1,37 @@
 -- What an input gives is one answer, and a settled one.
-use Rattle.std.proofs.Common.{◌≡◌, List, Some, None, sym, ◌∙◌, ap, subst}
+use Rattle.std.proofs.Common.{◌≡◌, List, Option, Some, None, sym, ◌∙◌, ap, ap₂, subst}
+use Rattle.std.proofs.lemmas.Option.{same_Some}
 use Rattle.bx_cert.specs.Certs.{Certificate}
-use Rattle.bx_cert.specs.Texts.{cert_text}
+use Rattle.bx_cert.specs.declared.parts.CertLast.{CertLast}
+use Rattle.bx_cert.specs.declared.parts.CertLast.TheVariants as told
 use Rattle.bx_desk.specs.Desk.{Files}
-use Rattle.bx_design.specs.Designs.{IsDesign}
-use Rattle.bx_design.proofs.OneDesign.{one-design}
-use Rattle.bx_design.specs.declared.ending.Ending.{Ending}
-use Rattle.bx_design.specs.declared.ending.Ending.TheVariants.{Found as FoundIn, Undecided as UndecidedAt, NoneWithin as NoneIn}
+use Rattle.bx_design.proofs.OneSolution.{one-solution}
+use Rattle.bx_design.specs.declared.solution.LaidOut.{LaidOut}
 use Rattle.bx_layout.specs.Permits.{all_forms}
 use Rattle.bx_syntax.specs.Parts.{ModuleTree}
 use Rattle.bx_verilog.specs.Formulas.{Text}
 use Rattle.bx_words.specs.declared.faults.WordFault.{WordFault}
 use Rattle.bx_engine.specs.declared.status.InputFault.{InputFault}
-use Rattle.bx_engine.specs.declared.status.Status.{Status}
 use Rattle.bx_engine.specs.declared.status.Status.TheVariants.{Words, Refused}
 use Rattle.bx_engine.specs.Said.{word_fault_text, input_fault_text}
 use Rattle.bx_engine.specs.Statuses.{IsSettled, HasSearched, status_of}
 use Rattle.bx_engine.specs.Tasks.{Task, IsTask}
 use Rattle.bx_engine.specs.Texts.{network_of}
-use Rattle.bx_engine.specs.Answers.{Answer, Written, IsAnswerTo, IsAnswer, refusal, designed, refused, searched, misused, answered}
+use Rattle.bx_engine.specs.Answers.{Answer, Written, Solves, IsAnswerTo, IsAnswer, refusal, file_of, answer_of, refused, searched, misused, answered}
 use Rattle.bx_engine.proofs.Readings.{refused_once, not_both, one_module}
 use Rattle.bx_engine.proofs.Tasks.{one_task}
 
 -- ---- statuses
 
-status_settled : (end : Ending) → IsSettled (status_of end)
-status_settled (FoundIn L g) = tt
-status_settled (UndecidedAt ratio spent) = tt
-status_settled NoneIn = tt
+pub status_searched : (last : CertLast) → HasSearched (status_of last)
+status_searched (told.Found ratio spots) = tt
+status_searched (told.Undecided ratio spent) = tt
+status_searched told.NoneWithin = tt
 
-pub status_searched : (end : Ending) → HasSearched (status_of end)
-status_searched (FoundIn L g) = tt
-status_searched (UndecidedAt ratio spent) = tt
-status_searched NoneIn = tt
-
-pub searched_settled : (status : Status) (end : Ending) → status ≡ status_of end → IsSettled status
-searched_settled status end e = subst IsSettled (sym e) (status_settled end)
+status_settled : (last : CertLast) → IsSettled (status_of last)
+status_settled (told.Found ratio spots) = tt
+status_settled (told.Undecided ratio spent) = tt
+status_settled told.NoneWithin = tt
 
 -- ---- the answer to a task
 
@@ -43,28 +39,21 @@ module _ (task : Task) (text : Text) where
   pub one_to_text : (one other : Answer) → IsAnswerTo task text one → IsAnswerTo task text other → one ≡ other
   one_to_text _ _ (refused f is) (refused g are) =
       ap (λ (x : InputFault). refusal (Refused x) (input_fault_text x)) (refused_once text f g is are)
-  one_to_text _ _ (refused f is) (searched m cert end taken design) = absurd (not_both text m f taken is)
-  one_to_text _ _ (searched m cert end taken design) (refused f is) = absurd (not_both text m f taken is)
-  one_to_text _ _ (searched m cert end taken design) (searched n other last takes designs) =
+  one_to_text _ _ (refused f is) (searched m cert found taken solves) = absurd (not_both text m f taken is)
+  one_to_text _ _ (searched m cert found taken solves) (refused f is) = absurd (not_both text m f taken is)
+  one_to_text _ _ (searched m cert found taken solves) (searched n other last takes are) =
       let same : m ≡ n = one_module text m n taken takes in
-      let moved : IsDesign (network_of n) all_forms task.limits task.budget cert end =
-      subst (λ (t : ModuleTree). IsDesign (network_of t) all_forms task.limits task.budget cert end) same design in
-      let one = one-design (network_of n) all_forms task.limits task.budget cert other end last moved designs in
-      ap (λ (t : ModuleTree). designed task t cert end) same
-      ∙ ap (λ (c : Certificate). designed task n c end) one.0
-      ∙ ap (λ (e : Ending). designed task n other e) one.1
+      let one = one-solution (network_of n) all_forms task.limits task.budget cert other found last (subst (λ (t : ModuleTree). Solves task t cert found) same solves) are in
+      ap (λ (t : ModuleTree). answer_of task t cert found) same ∙ ap₂ (λ (c : Certificate) (o : Option LaidOut). answer_of task n c o) one.0 one.1
 
   settled_to_text : (answer : Answer) → IsAnswerTo task text answer → IsSettled answer.status
   settled_to_text _ (refused f is) = tt
-  settled_to_text _ (searched m cert end taken design) = status_settled end
+  settled_to_text _ (searched m cert found taken solves) = status_settled cert.last
 
   file_of_text : (answer : Answer) (file : Written) → IsAnswerTo task text answer → answer.file ≡ Some file → task.cert ≡ file.name
   file_of_text _ file (refused f is) e = let lost : None ≡ Some file = e in cc
-  file_of_text _ file (searched m cert end taken design) e =
-      let whole : Written = record { name = task.cert; text = cert_text cert } in
-      let same : Some whole ≡ Some file = e in
-      let one : whole ≡ file = cc in
-      ap (λ (f : Written). f.name) one
+  file_of_text _ file (searched m cert found taken solves) e =
+      ap (λ (f : Written). f.name) (same_Some (file_of task.cert cert) file e)
 
 -- ---- the answer to words
 
@@ -93,9 +82,9 @@ module _ (words : List Text) (files : Files) where
   settled_answer _ (answered task text answer asks there to) = settled_to_text task text answer to
 
   -- the only file that is written is the task's
-  pub file_of : (answer : Answer) (file : Written) → IsAnswer words files answer → answer.file ≡ Some file → (task : Task) × IsTask words task × (task.cert ≡ file.name)
-  file_of _ file (misused f is) e = let lost : None ≡ Some file = e in absurd (cc)
-  file_of _ file (answered task text answer asks there to) e = (task, asks, file_of_text task text answer file to e)
+  pub file_owner : (answer : Answer) (file : Written) → IsAnswer words files answer → answer.file ≡ Some file → (task : Task) × IsTask words task × (task.cert ≡ file.name)
+  file_owner _ file (misused f is) e = let lost : None ≡ Some file = e in absurd (cc)
+  file_owner _ file (answered task text answer asks there to) e = (task, asks, file_of_text task text answer file to e)
 
 -- the answer is a function of the file that is asked for
 pub by_name : (words : List Text) (files others : Files) (answer : Answer) → ((task : Task) → IsTask words task → others task.net ≡ files task.net) → IsAnswer words files answer → IsAnswer words others answer

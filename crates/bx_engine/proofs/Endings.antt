@@ -1,10 +1,10 @@
 -- A text that was put out through a new piece, and what the end of the piece hands on then: a file that was written,
 -- or an answer that was given.
-use Rattle.std.proofs.Common.{◌≡◌, ℕ, List, [], ◌++◌, Result, Ok, Err, sym, ◌∙◌, subst, refl}
+use Rattle.std.proofs.Common.{◌≡◌, ℕ, List, [], ◌++◌, Option, Result, Ok, Err, sym, ◌∙◌, subst, refl}
 use Rattle.std.specs.Prelude.{OnOk, OnErr, IsSome}
 use Rattle.std.proofs.lemmas.List.{append-nil}
 use Rattle.bx_cert.specs.Certs.{Certificate}
-use Rattle.bx_design.specs.declared.ending.Ending.{Ending}
+use Rattle.bx_design.specs.declared.solution.LaidOut.{LaidOut}
 use Rattle.bx_desk.specs.Desk.{DeskState, CanPut, Starts, Puts, PutsFront, Writes, WritesFront}
 use Rattle.bx_desk.specs.Pieces.{pending, target_of, PutsUpTo, HandsOn, PutsOut}
 use Rattle.bx_desk.specs.declared.desk.Failed.{Failed}
@@ -18,12 +18,12 @@ use Rattle.bx_verilog.specs.Formulas.{Text}
 use Rattle.bx_engine.specs.declared.status.Status.{Status}
 use Rattle.bx_engine.specs.declared.status.Status.TheVariants.{WriteFault}
 use Rattle.bx_engine.specs.declared.status.Which.TheVariants.{CertFile, Output as OfOutput}
-use Rattle.bx_engine.specs.Answers.{Written, refusal}
+use Rattle.bx_engine.specs.Answers.{Written, refusal, file_of, search_answer}
 use Rattle.bx_engine.specs.Effects.{WritesFile, FailsToWrite, cut_short, unwritten, unsaid}
-use Rattle.bx_engine.specs.Outcomes.{EndsSaying, done, failed}
-use Rattle.bx_engine.specs.Said.{ending_text, refusal_text}
+use Rattle.bx_engine.specs.Runs.{EndsSaying, done, failed}
+use Rattle.bx_engine.specs.Said.{search_text, refusal_text}
 use Rattle.bx_engine.specs.Statuses.{status_of}
-use Rattle.bx_engine.specs.Steps.{EndsGiving, given, ungiven, file_of, design_answer}
+use Rattle.bx_engine.specs.Steps.{EndsGiving, given, ungiven}
 
 -- ---- through a piece
 
@@ -108,12 +108,12 @@ pub gives_refusal : (old new : DeskState) (status : Status) (text : Text) (resul
 gives_refusal old new status text result (done says) = given (record { written = old; file = refl; said = says })
 gives_refusal old new status text result (failed front) = ungiven OfOutput (unsaid old refl front)
 
-module _ (old mid new : DeskState) (name : Text) (net : Netlist) (N : Network) (cert : Certificate) (end : Ending) where
+module _ (old mid new : DeskState) (name : Text) (net : Netlist) (N : Network) (cert : Certificate) (found : Option LaidOut) where
   -- the certificate was written, and the report said or not
-  pub gives_design : (result : Status) → WritesFile old mid (file_of name cert) → EndsSaying mid new (status_of end) (ending_text net N end) result → EndsGiving old new (design_answer name net N cert end) result
-  gives_design result writes (done says) = given (record { written = mid; file = writes; said = says })
-  gives_design result writes (failed front) = ungiven OfOutput (unsaid mid writes front)
+  pub gives_solution : (result : Status) → WritesFile old mid (file_of name cert) → EndsSaying mid new (status_of cert.last) (search_text net N cert.last found) result → EndsGiving old new (search_answer name net N cert found) result
+  gives_solution result writes (done says) = given (record { written = mid; file = writes; said = says })
+  gives_solution result writes (failed front) = ungiven OfOutput (unsaid mid writes front)
 
 -- the certificate couldn't be written
-pub gives_no_file : (old new : DeskState) (name : Text) (net : Netlist) (N : Network) (cert : Certificate) (end : Ending) → FailsToWrite old new (file_of name cert) → EndsGiving old new (design_answer name net N cert end) (WriteFault CertFile)
-gives_no_file old new name net N cert end fails = ungiven CertFile (unwritten (file_of name cert) refl fails)
+pub gives_no_file : (old new : DeskState) (name : Text) (net : Netlist) (N : Network) (cert : Certificate) (found : Option LaidOut) → FailsToWrite old new (file_of name cert) → EndsGiving old new (search_answer name net N cert found) (WriteFault CertFile)
+gives_no_file old new name net N cert found fails = ungiven CertFile (unwritten (file_of name cert) refl fails)

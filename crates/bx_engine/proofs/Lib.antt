@@ -1,6 +1,6 @@
 pub mod Lines
 pub mod Endings
-pub mod Designs
+pub mod Networks
 pub mod Constants
 pub mod Permits
 pub mod Serving
@@ -8,6 +8,7 @@ pub mod Tasks
 pub mod Readings
 pub mod EachText
 pub mod Answers
+pub mod Existence
 pub mod Effects
 pub mod PlainNames
 pub mod Worth

@@ -1,10 +1,10 @@
 -- The permit of all forms, and that a budget is at most the work that it makes.
-use Rattle.std.proofs.Common.{ℕ, ◌*◌, ◌≤◌, List, Bool, length, arith}
+use Rattle.std.proofs.Common.{ℕ, ◌*◌, ◌≤◌, List, Bool, Option, length, arith}
 use Rattle.std.proofs.Math.Nat.{mul-le-mul_left}
 use Rattle.bx_cert.specs.Certs.{Certificate}
-use Rattle.bx_design.proofs.Agreeing.{design-same}
-use Rattle.bx_design.specs.Designs.{IsDesign}
-use Rattle.bx_design.specs.declared.ending.Ending.{Ending}
+use Rattle.bx_design.proofs.Agreeing.{solution-same}
+use Rattle.bx_design.specs.Solutions.{IsSolution}
+use Rattle.bx_design.specs.declared.solution.LaidOut.{LaidOut}
 use Rattle.bx_forms.specs.Forms.{IsForm}
 use Rattle.bx_forms.specs.FormSets.{IsIn}
 use Rattle.bx_grid.proofs.Orders.{order_is_exact}
@@ -14,12 +14,12 @@ use Rattle.bx_grid.specs.declared.ratio.Ratio.{Ratio}
 use Rattle.bx_layout.specs.Permits.{Allows, test_of, all_forms}
 use Rattle.bx_network.specs.Networks.{Network}
 
--- a permit of all forms gives the designs of that of all forms
-pub all-design : (N : Network) (forms set : List Bool) (limits : Limits) (budget : ℕ) (cert : Certificate) (end : Ending)
+-- a permit of all forms gives the solutions of that of all forms
+pub all-solution : (N : Network) (forms set : List Bool) (limits : Limits) (budget : ℕ) (cert : Certificate) (found : Option LaidOut)
     → ((form : ℕ) → IsForm form → IsIn set form) → ((ratio : Ratio) (t form : ℕ) → IsIn set form → Allows (test_of forms) ratio t form)
-    → IsDesign N (test_of forms) limits budget cert end → IsDesign N all_forms limits budget cert end
-all-design N forms set limits budget cert end whole allowed is =
-    design-same N (test_of forms) all_forms (λ r t form known. allowed r t form (whole form known)) limits budget cert end is
+    → IsSolution N (test_of forms) limits budget cert found → IsSolution N all_forms limits budget cert found
+all-solution N forms set limits budget cert found whole allowed is =
+    solution-same N (test_of forms) all_forms (λ r t form known. allowed r t form (whole form known)) limits budget cert found is
 
 -- there is a ratio within limits
 some_ratio : (limits : Limits) → AreLimits limits → 1 ≤ length (order limits)

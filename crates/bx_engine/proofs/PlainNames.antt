@@ -11,8 +11,8 @@ use Rattle.bx_lex.specs.Bytes.{is_word_byte, is_shown, is_base}
 use Rattle.bx_lex.specs.Kinds.{IsLongestRun, IsTokenOf}
 use Rattle.bx_lex.proofs.ByKind.{tokens_of_kind}
 use Rattle.bx_syntax.specs.declared.terminal.Terminal.{Terminal}
-use Rattle.bx_syntax.specs.declared.terminal.Terminal.TheVariants.{Mark, Name, Bit, Number, Symbol}
-use Rattle.bx_syntax.specs.declared.terminal.Mark.{Mark as Sign}
+use Rattle.bx_syntax.specs.declared.terminal.Terminal.TheVariants.{Fixed, Name, Bit, Number, Symbol}
+use Rattle.bx_syntax.specs.declared.terminal.Mark.{Mark}
 use Rattle.bx_syntax.specs.declared.terminal.Mark.TheVariants.{Module as ModuleWord, Open, Comma, Wire as WireWord, TildeCaret}
 use Rattle.bx_syntax.specs.declared.tree.Direction.{Direction}
 use Rattle.bx_syntax.specs.declared.tree.Port.{Port}
@@ -69,11 +69,11 @@ number_is_none (a ∷ b ∷ []) name e = cc
 number_is_none (a ∷ b ∷ c ∷ []) name e = cc
 number_is_none (a ∷ b ∷ c ∷ d ∷ f ∷ text) name e = cc
 
-mark_is_none : (b : ℕ) (found : Option Sign) (name : Text) → mark_or_symbol b found ≡ Name name → ⊥
+mark_is_none : (b : ℕ) (found : Option Mark) (name : Text) → mark_or_symbol b found ≡ Name name → ⊥
 mark_is_none b (Some s) name e = cc
 mark_is_none b None name e = cc
 
-xnor_is_none : (xnor : Bool) (a : ℕ) (name : Text) → (if xnor then Mark TildeCaret else Symbol a) ≡ Name name → ⊥
+xnor_is_none : (xnor : Bool) (a : ℕ) (name : Text) → (if xnor then Fixed TildeCaret else Symbol a) ≡ Name name → ⊥
 xnor_is_none true a name e = cc
 xnor_is_none false a name e = cc
 
@@ -116,7 +116,7 @@ optional_plain t ts rest (inl same) p = subst ArePlain same p
 optional_plain t ts rest (inr is) p = rest_plain t ts rest is p
 
 direction_plain : (d : Direction) (ts rest : List Terminal) → IsDirection d ts rest → ArePlain ts → ArePlain rest
-direction_plain d ts rest (a, is, wire) p = optional_plain (Mark WireWord) a rest wire (rest_plain (word d) ts a is p)
+direction_plain d ts rest (a, is, wire) p = optional_plain (Fixed WireWord) a rest wire (rest_plain (word d) ts a is p)
 
 abbrev HavePlainNames : List Port → Type 0
 HavePlainNames ports = AllByRecursion (λ p. IsPlain p.name) ports
@@ -124,10 +124,10 @@ HavePlainNames ports = AllByRecursion (λ p. IsPlain p.name) ports
 ports_behind_plain : (d : Option Direction) (ports : List Port) (ts rest : List Terminal) → ArePortsBehind d ports ts rest → ArePlain ts → HavePlainNames ports
 ports_behind_plain d [] ts rest is p = tt
 ports_behind_plain d (q ∷ ports) ts rest (a, b, comma, inl plain, more) p =
-    let here = rest_plain (Mark Comma) ts a comma p in
+    let here = rest_plain (Fixed Comma) ts a comma p in
     (name_plain q.name a b plain.1 here, ports_behind_plain q.direction ports b rest more (rest_plain (Name q.name) a b plain.1 here))
 ports_behind_plain d (q ∷ ports) ts rest (a, b, comma, inr (some, (e, c, same, is, name)), more) p =
-    let here = direction_plain e a c is (rest_plain (Mark Comma) ts a comma p) in
+    let here = direction_plain e a c is (rest_plain (Fixed Comma) ts a comma p) in
     (name_plain q.name c b name here, ports_behind_plain q.direction ports b rest more (rest_plain (Name q.name) c b name here))
 
 ports_plain : (ports : List Port) (ts rest : List Terminal) → ArePorts ports ts rest → ArePlain ts → HavePlainNames ports
@@ -144,7 +144,7 @@ no_ports ports none = subst HavePlainNames (sym none) tt
 header_plain : (ports : List Port) (ts rest : List Terminal) → IsHeader ports ts rest → ArePlain ts → HavePlainNames ports
 header_plain ports ts rest (inl (none, same)) p = no_ports ports none
 header_plain ports ts rest (inr (a, b, opens, inl (none, same), closes)) p = no_ports ports none
-header_plain ports ts rest (inr (a, b, opens, inr are, closes)) p = ports_plain ports a b are (rest_plain (Mark Open) ts a opens p)
+header_plain ports ts rest (inr (a, b, opens, inr are, closes)) p = ports_plain ports a b are (rest_plain (Fixed Open) ts a opens p)
 
 module _ (text : Text) (m : ModuleTree) (is : IsText text m) where
   text_plain : ArePlain (terminals_of text is.found.tokens)
@@ -153,7 +153,7 @@ module _ (text : Text) (m : ModuleTree) (is : IsText text m) where
       (recursion_from_All (λ t. IsTokenOf t.kind (drop t.start text) (t.end - t.start)) is.found.tokens (tokens_of_kind text is.found is.tokens))
 
   behind_module : ArePlain is.is_module.named
-  behind_module = rest_plain (Mark ModuleWord) (terminals_of text is.found.tokens) is.is_module.named is.is_module.begins text_plain
+  behind_module = rest_plain (Fixed ModuleWord) (terminals_of text is.found.tokens) is.is_module.named is.is_module.begins text_plain
 
   pub module_name_plain : IsPlain m.name
   module_name_plain = name_plain m.name is.is_module.named is.is_module.headed is.is_module.name behind_module

@@ -1,10 +1,10 @@
 -- The report of a layout that was found can be told from any other: the names of a module are plain, and its nodes
 -- stand on tiles.
-use Rattle.std.proofs.Common.{◌≡◌, ℕ, List, [], ◌∷◌, map, refl, sym, ap, subst}
+use Rattle.std.proofs.Common.{◌≡◌, ℕ, List, [], ◌∷◌, map, Some, length, refl, sym, ap, subst}
 use Rattle.std.specs.List.{AllByRecursion}
 use Rattle.bx_cert.specs.Certs.{Certificate}
-use Rattle.bx_design.specs.Designs.{IsDesign}
-use Rattle.bx_design.specs.declared.ending.Ending.TheVariants.{Found}
+use Rattle.bx_design.specs.declared.solution.LaidOut.{LaidOut}
+use Rattle.bx_design.proofs.Minimal.{laid-of}
 use Rattle.bx_logic.specs.Nets.{output_names}
 use Rattle.bx_syntax.specs.Parts.{ModuleTree}
 use Rattle.bx_verilog.specs.Formulas.{Text}
@@ -12,12 +12,11 @@ use Rattle.bx_verilog.specs.Mentions.{outputs, number}
 use Rattle.bx_verilog.specs.Elaboration.{net_of}
 use Rattle.bx_grid.specs.declared.ratio.Ratio.{Ratio}
 use Rattle.bx_grid.specs.Tiles.{IsTile}
-use Rattle.bx_layout.specs.Grids.{FormGrid}
 use Rattle.bx_layout.specs.Permits.{all_forms}
-use Rattle.bx_layout.specs.declared.layout.Layout.{Layout}
 use Rattle.bx_says.specs.Texts.{IsPlain}
 use Rattle.bx_says.specs.Reports.{HasPlainNames, IsReportable, report_of}
 use Rattle.bx_says.proofs.Reportable.{reportable as plain-reportable}
+use Rattle.bx_engine.specs.Answers.{Solves}
 use Rattle.bx_engine.specs.Tasks.{Task, IsTask}
 use Rattle.bx_engine.specs.Texts.{IsText, IsTaken, network_of}
 use Rattle.bx_engine.proofs.PlainNames.{module_name_plain, inputs_plain, outputs_plain}
@@ -39,9 +38,8 @@ names-plain text m is = record {
 }
 
 pub reportable : (words : List Text) (task : Task) → IsTask words task → (text : Text) (m : ModuleTree) → IsTaken text m
-    → (cert : Certificate) (L : Layout) (g : FormGrid) → IsDesign (network_of m) all_forms task.limits task.budget cert (Found L g)
-    → IsReportable (report_of (net_of m) (network_of m) L.places g)
-reportable words task asks text m taken cert L g design =
-    let good = (minimal words task asks text m taken cert (Found L g) design).end_at.1 in
-    plain-reportable (net_of m) (network_of m) L.places g (names-plain text m taken.good.is_text) (network-is text m taken) good.whole
+    → (cert : Certificate) (laid : LaidOut) → Solves task m cert (Some laid) → IsReportable (report_of (net_of m) (network_of m) laid.layout.places laid.grid)
+reportable words task asks text m taken cert laid solves =
+    let good = laid-of (network_of m) all_forms task.limits task.budget (length cert.sections) laid cert.last (minimal words task asks text m taken cert (Some laid) solves).end_at in
+    plain-reportable (net_of m) (network_of m) laid.layout.places laid.grid (names-plain text m taken.good.is_text) (network-is text m taken) good.whole
     (λ v t at. subst (λ (r : Ratio). IsTile r t) (sym good.forms.ratio) (good.legal.placed.inside v t at))

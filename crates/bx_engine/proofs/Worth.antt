@@ -1,26 +1,29 @@
 -- What the answer to a module that is taken is worth.
-use Rattle.std.proofs.Common.{ℕ, ◌<◌, ◌≤◌, List, length, refl, ap, arith}
+use Rattle.std.proofs.Common.{◌≡◌, ℕ, ◌<◌, ◌≤◌, List, Option, Some, length, refl, sym, ap, ◌∙◌, arith}
+use Rattle.std.specs.Prelude.{slice_get}
 use Rattle.std.proofs.lemmas.List.{length-map}
 use Rattle.bx_cert.specs.Certs.{Certificate, IsCert}
 use Rattle.bx_cert.specs.Texts.{cert_text}
-use Rattle.bx_design.specs.Certificates.{last_of}
-use Rattle.bx_design.specs.Designs.{IsDesign}
-use Rattle.bx_design.specs.Meaning.{IsMinimal}
+use Rattle.bx_cert.specs.declared.parts.CertLast.{CertLast}
+use Rattle.bx_cert.specs.declared.parts.CertLast.TheVariants.{Found, Undecided, NoneWithin}
+use Rattle.bx_cert.specs.declared.parts.Spot.{Spot}
+use Rattle.bx_design.specs.Certificates.{spots_of}
+use Rattle.bx_design.specs.Meaning.{IsMinimal, IsFoundWith, IsEndAt}
 use Rattle.bx_design.proofs.Certified.{certified as cert-is}
 use Rattle.bx_design.proofs.Minimal.{minimal as minimal-is}
-use Rattle.bx_design.specs.declared.ending.Ending.{Ending}
-use Rattle.bx_design.specs.declared.ending.Ending.TheVariants.{Found, Undecided, NoneWithin}
+use Rattle.bx_design.specs.declared.solution.LaidOut.{LaidOut}
+use Rattle.bx_grid.specs.Orders.{order}
 use Rattle.bx_grid.specs.declared.ratio.Ratio.{Ratio}
-use Rattle.bx_layout.specs.Grids.{FormGrid}
 use Rattle.bx_layout.specs.Permits.{all_forms}
 use Rattle.bx_layout.specs.Pins.{pins_of, grid_behaviour}
+use Rattle.bx_layout.proofs.Flow.{row-clocked}
 use Rattle.bx_layout.specs.declared.layout.Layout.{Layout}
 use Rattle.bx_lex.proofs.Cuts.{tokens_spans, tokens_whole}
 use Rattle.bx_logic.specs.Nets.{IsNet}
 use Rattle.bx_logic.specs.Behaviours.{net_behaviour}
 use Rattle.bx_logic.proofs.Behaviours.{same-sym, same-trans}
-use Rattle.bx_map.specs.Maps.{mapped}
-use Rattle.bx_map.proofs.Mapping.{mapped-is_network}
+use Rattle.bx_map.specs.Maps.{mapping_of}
+use Rattle.bx_map.proofs.Mapping.{mapping_of-is_network}
 use Rattle.bx_map.proofs.Ported.{input-ports, output-ports}
 use Rattle.bx_map.proofs.Behaving.{computes as mapped-computes}
 use Rattle.bx_network.specs.Networks.{Network, IsNetwork}
@@ -35,10 +38,12 @@ use Rattle.bx_verilog.specs.Elaboration.{net_of}
 use Rattle.bx_verilog.proofs.Cyclic.{acyclic-net}
 use Rattle.bx_verilog.proofs.ElaboratedNets.{is_net}
 use Rattle.bx_verilog.proofs.ModuleBehaviours.{same-behaviour}
-use Rattle.bx_engine.specs.Said.{ending_text}
+use Rattle.bx_engine.specs.Answers.{Solves}
+use Rattle.bx_engine.specs.Said.{search_text}
 use Rattle.bx_engine.specs.Tasks.{Task, IsTask}
 use Rattle.bx_engine.specs.Texts.{IsText, IsTaken, network_of}
-use Rattle.bx_engine.specs.Worth.{ComputesModule, IsEvidence, IsFound, IsLeftUndecided, IsNoneWithin}
+use Rattle.bx_engine.specs.Worth.{ComputesModule, IsEvidence, IsFound, IsWorth}
+use Rattle.bx_engine.proofs.Lines.{found-text}
 use Rattle.bx_engine.proofs.Tasks.{limits_are, budget_is}
 
 -- ---- the module
@@ -58,11 +63,11 @@ module _ (text : Text) (m : ModuleTree) (taken : IsTaken text m) where
   net-is : IsNet (net_of m)
   net-is = is_net m tree taken.good.accepted.0 (acyclic-net m taken.good.accepted.1)
 
-  few : length (mapped (net_of m)).nodes < 2147483648
+  few : length (mapping_of (net_of m)).nodes < 2147483648
   few = let a = taken.is_mapped.few in omega arith
 
   pub network-is : IsNetwork (network_of m)
-  network-is = mapped-is_network (net_of m) net-is taken.is_mapped.no_constant few
+  network-is = mapping_of-is_network (net_of m) net-is taken.is_mapped.no_constant few
 
   pub module-computed : ComputesModule (net_of m) (module_of m) (network_of m)
   module-computed =
@@ -77,73 +82,72 @@ module _ (text : Text) (m : ModuleTree) (taken : IsTaken text m) where
             (same-behaviour m tree taken.good.accepted);
       }
 
--- ---- the design of its network
+-- ---- the solution of its network
 
 module _ (words : List Text) (task : Task) (asks : IsTask words task) (text : Text) (m : ModuleTree) (taken : IsTaken text m)
-    (cert : Certificate) where
-  module _ (end : Ending) (design : IsDesign (network_of m) all_forms task.limits task.budget cert end) where
-    pub minimal : IsMinimal (network_of m) all_forms task.limits task.budget cert end
-    minimal =
-        let few = taken.is_mapped.few in
-        minimal-is (network_of m) all_forms task.limits task.budget cert end (network-is text m taken) (omega arith) (limits_are words task asks) design
+    (cert : Certificate) (found : Option LaidOut) (solves : Solves task m cert found) where
+  abbrev N : Network
+  N = network_of m
 
-    certified : IsCert cert
-    certified =
-        let few = taken.is_mapped.few in
-        cert-is (network_of m) all_forms task.limits task.budget cert end (network-is text m taken) (omega arith) (limits_are words task asks) (budget_is words task asks) design
+  small : length N.nodes ≤ 96
+  small = let few = taken.is_mapped.few in omega arith
 
-    abbrev evidence : IsEvidence task (network_of m) (cert_text cert) (last_of end)
-    evidence = record {
-      cert = cert;
-      is_cert = certified;
-      limits = ap (λ (c : Certificate). c.limits) design.certified;
-      budget = ap (λ (c : Certificate). c.budget) design.certified;
-      ends = ap (λ (c : Certificate). c.last) design.certified;
-      spelled = refl;
-      sections = minimal.sections;
-      lacking = minimal.lacking;
-    }
+  pub minimal : IsMinimal N all_forms task.limits task.budget cert found
+  minimal = minimal-is N all_forms task.limits task.budget (network-is text m taken) small (limits_are words task asks) cert found solves
 
-  pub found-is : (L : Layout) (g : FormGrid) → IsDesign (network_of m) all_forms task.limits task.budget cert (Found L g)
-      → IsFound task m L.ratio (cert_text cert) (ending_text (net_of m) (network_of m) (Found L g))
-  found-is L g design =
-      let N : Network = network_of m in
+  certified : IsCert cert
+  certified = cert-is N all_forms task.limits task.budget (network-is text m taken) small (limits_are words task asks) (budget_is words task asks) cert found solves
+
+  abbrev evidence : (last : CertLast) → cert.last ≡ last → IsEvidence task N (cert_text cert) last
+  evidence last ends = record {
+    cert = cert;
+    is_cert = certified;
+    limits = ap (λ (c : Certificate). c.limits) solves.certified;
+    budget = ap (λ (c : Certificate). c.budget) solves.certified;
+    ends = ends;
+    spelled = refl;
+    sections = minimal.sections;
+    lacking = minimal.lacking;
+  }
+
+  found-is : (r : Ratio) (spots : List Spot) → cert.last ≡ Found r spots → slice_get (order task.limits) (length cert.sections) ≡ Some r → IsFoundWith N all_forms r spots found
+      → IsFound task m r (cert_text cert) (search_text (net_of m) N (Found r spots) found)
+  found-is r spots ends at with =
       let inputs : ℕ = length (net_of m).inputs in
       let computed = module-computed text m taken in
-      let is = minimal (Found L g) design in
-      let good = is.end_at.1 in
-      let computes = good.computes inputs in
+      let L : Layout = with.laid.layout in
+      let computes = with.is.computes inputs in
       record {
         computed = computed;
         layout = L;
-        sides = refl;
-        legal = good.legal;
-        grid = g;
-        forms = good.forms;
-        whole = good.whole;
-        sound = good.sound;
+        sides = with.sides;
+        legal = with.is.legal;
+        clocked = row-clocked N all_forms L with.is.legal;
+        grid = with.laid.grid;
+        forms = with.is.forms;
+        whole = with.is.whole;
+        sound = with.is.sound;
         ports = computes.pins_fit;
-        computes = same-trans (grid_behaviour inputs g (pins_of N L)) (network_behaviour inputs N) (module_behaviour (module_of m)) computes.same computed.meaning;
-        printed = refl;
-        least = record { evidence = evidence (Found L g) design; next = is.end_at.0 };
+        computes = same-trans (grid_behaviour inputs with.laid.grid (pins_of N L)) (network_behaviour inputs N) (module_behaviour (module_of m)) computes.same computed.meaning;
+        printed = ap (λ (o : Option LaidOut). search_text (net_of m) N (Found r spots) o) with.found_is
+            ∙ found-text (net_of m) N r spots with.laid (sym (with.is.forms.ratio ∙ with.sides));
+        least = record { evidence = evidence (Found r (spots_of L)) (ends ∙ ap (λ (xs : List Spot). Found r xs) with.places); next = at };
       }
 
-  pub undecided-is : (ratio : Ratio) (spent : ℕ) → IsDesign (network_of m) all_forms task.limits task.budget cert (Undecided ratio spent)
-      → IsLeftUndecided task m ratio spent (cert_text cert) (ending_text (net_of m) (network_of m) (Undecided ratio spent))
-  undecided-is ratio spent design =
-      let is = minimal (Undecided ratio spent) design in
-      record {
-        computed = module-computed text m taken;
-        verdict = is.end_at.1;
-        printed = refl;
-        least = record { evidence = evidence (Undecided ratio spent) design; next = is.end_at.0 };
-      }
-
-  pub none-is : IsDesign (network_of m) all_forms task.limits task.budget cert NoneWithin
-      → IsNoneWithin task m (cert_text cert) (ending_text (net_of m) (network_of m) NoneWithin)
-  none-is design = record {
-    computed = module-computed text m taken;
-    printed = refl;
-    evidence = evidence NoneWithin design;
-    all = (minimal NoneWithin design).end_at;
-  }
+  pub worth-is : IsWorth task m cert.last (cert_text cert) (search_text (net_of m) N cert.last found)
+  worth-is = by cert.last refl minimal.end_at where
+    by : (last : CertLast) → cert.last ≡ last → IsEndAt N all_forms task.limits task.budget (length cert.sections) last found
+        → IsWorth task m last (cert_text cert) (search_text (net_of m) N last found)
+    by (Found r spots) ends (at, with) = found-is r spots ends at with
+    by (Undecided r spent) ends (at, none, verdict) = record {
+      computed = module-computed text m taken;
+      verdict = verdict;
+      printed = ap (λ (o : Option LaidOut). search_text (net_of m) N (Undecided r spent) o) none;
+      least = record { evidence = evidence (Undecided r spent) ends; next = at };
+    }
+    by NoneWithin ends (over, none) = record {
+      computed = module-computed text m taken;
+      printed = ap (λ (o : Option LaidOut). search_text (net_of m) N NoneWithin o) none;
+      evidence = evidence NoneWithin ends;
+      all = over;
+    }

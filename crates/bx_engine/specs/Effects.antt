@@ -17,7 +17,8 @@ pub record WritesFile (old new : DeskState) (file : Written) : Type 0 where
 -- such failures
 pub data FailsToWrite (old new : DeskState) (file : Written) : Type 0 where
   unstarted : FailsToStart old new file.name → FailsToWrite old new file
-  cut_short : (begun : DeskState) → Starts old begun file.name → WritesFront begun new file.text → FailsToWrite old new file
+  cut_short : (begun : DeskState) → Starts old begun file.name → WritesFront begun new file.text
+      → FailsToWrite old new file
 
 -- a file was written, where there is one to be written
 abbrev pub WritesAny : DeskState → DeskState → Option Written → Type 0
@@ -39,17 +40,28 @@ pub record HasGiven (old new : DeskState) (task : Task) (bytes said : Text) : Ty
   pub file : file_at new.files task.cert ≡ Some bytes
   pub says : new.said ≡ option_map (λ before. before ++ said) old.said
 
+-- the file of the certificate has such bytes, and such a text was said
+abbrev pub HasGivenSome : DeskState → DeskState → Task → (Text → Text → Type 0) → Type 0
+HasGivenSome old new task Are = (bytes said : Text) × Are bytes said
+    × HasGiven old new task bytes said
+
 -- the answer couldn't be given: its file couldn't be written, and nothing was said; or it was, where there is one,
 -- and a front of the text was said
 pub data FailsToGive (old new : DeskState) (answer : Answer) : Which → Type 0 where
-  unwritten : (file : Written) → answer.file ≡ Some file → FailsToWrite old new file → FailsToGive old new answer CertFile
-  unsaid : (written : DeskState) → WritesAny old written answer.file → SaysFront written new answer.said → FailsToGive old new answer Output
+  unwritten : (file : Written) → answer.file ≡ Some file → FailsToWrite old new file
+      → FailsToGive old new answer CertFile
+  unsaid : (written : DeskState) → WritesAny old written answer.file
+      → SaysFront written new answer.said → FailsToGive old new answer Output
 
 -- the count of failures of the calls that lead there rose
 abbrev pub RoseAt : Which → Counts → Counts → Type 0
 RoseAt NetFile before now = Rose before.load now.load
 RoseAt CertFile before now = Rose before.write now.write
 RoseAt Output before now = Rose before.say now.say
+
+-- none of the three rose
+abbrev pub NoneRose : Counts → Counts → Type 0
+NoneRose before now = (which : Which) → RoseAt which before now → ⊥
 
 -- no count of failures fell
 pub record NoneFell (before now : Counts) : Type 0 where

@@ -2,8 +2,9 @@ pub mod Tasks
 pub mod Statuses
 pub mod Said
 pub mod Texts
+pub mod Told
 pub mod Answers
 pub mod Effects
-pub mod Outcomes
+pub mod Runs
 pub mod Steps
 pub mod Worth

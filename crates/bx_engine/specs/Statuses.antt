@@ -1,7 +1,7 @@
 -- Exit statuses, which statuses say that the run came to its end, and which that it searched.
 use Rattle.std.specs.Prelude.{ℕ, ⊤}
-use Rattle.bx_design.specs.declared.ending.Ending.{Ending}
-use Rattle.bx_design.specs.declared.ending.Ending.TheVariants.{Found as FoundIn, Undecided as UndecidedAt, NoneWithin as NoneIn}
+use Rattle.bx_cert.specs.declared.parts.CertLast.{CertLast}
+use Rattle.bx_cert.specs.declared.parts.CertLast.TheVariants as told
 use Rattle.bx_engine.specs.declared.status.Status.{Status}
 use Rattle.bx_engine.specs.declared.status.Status.TheVariants.{Found, Refused, Undecided, NoneWithin, ReadFault, WriteFault, NoMemory, Words}
 
@@ -37,8 +37,8 @@ HasSearched (WriteFault which) = ⊥
 HasSearched NoMemory = ⊥
 HasSearched (Words fault) = ⊥
 
--- the status of how the search ended
-abbrev pub status_of : Ending → Status
-status_of (FoundIn L g) = Found L.ratio
-status_of (UndecidedAt ratio spent) = Undecided ratio spent
-status_of NoneIn = NoneWithin
+-- the status of how the search ended, as the certificate tells it
+abbrev pub status_of : CertLast → Status
+status_of (told.Found ratio spots) = Found ratio
+status_of (told.Undecided ratio spent) = Undecided ratio spent
+status_of told.NoneWithin = NoneWithin

@@ -1,11 +1,7 @@
 -- How the steps of a run end, over what its desk had before.
-use Rattle.std.specs.Prelude.{◌≡◌, length, Option, Some, ⊤}
-use Rattle.bx_logic.specs.Nets.{Netlist}
-use Rattle.bx_cert.specs.Certs.{Certificate}
-use Rattle.bx_cert.specs.Texts.{cert_text}
+use Rattle.std.specs.Prelude.{◌≡◌, length, Option, IfSome}
 use Rattle.bx_desk.specs.Desk.{DeskState, Files, FailsToLoad, IsFile}
-use Rattle.bx_design.specs.declared.ending.Ending.{Ending}
-use Rattle.bx_design.specs.declared.ending.Ending.TheVariants.{Found, Undecided, NoneWithin}
+use Rattle.bx_design.specs.declared.solution.LaidOut.{LaidOut}
 use Rattle.bx_network.specs.Networks.{Network}
 use Rattle.bx_verilog.specs.Formulas.{Text}
 use Rattle.bx_words.specs.declared.commands.Command.{Command}
@@ -15,29 +11,17 @@ use Rattle.bx_engine.specs.declared.status.Status.{Status}
 use Rattle.bx_engine.specs.declared.status.Status.TheVariants.{ReadFault, WriteFault, NoMemory}
 use Rattle.bx_engine.specs.declared.status.Which.{Which}
 use Rattle.bx_engine.specs.declared.status.Which.TheVariants.{NetFile}
-use Rattle.bx_engine.specs.Answers.{Answer, Written, IsAnswerTo}
+use Rattle.bx_engine.specs.Answers.{Answer, IsAnswerTo}
 use Rattle.bx_engine.specs.Effects.{Gives, FailsToGive}
-use Rattle.bx_engine.specs.Said.{ending_text}
-use Rattle.bx_engine.specs.Statuses.{status_of}
 use Rattle.bx_engine.specs.Tasks.{Task}
 
 -- what the words of `design` ask for
 abbrev pub task_of : DesignCommand → Task
 task_of d = record { net = d.net.now; cert = d.cert.now; limits = d.limits; budget = d.budget }
 
--- the file of a certificate
-abbrev pub file_of : Text → Certificate → Written
-file_of name cert = record { name = name; text = cert_text cert }
-
--- what a design gives: its certificate in this file, and its report
-abbrev pub design_answer : Text → Netlist → Network → Certificate → Ending → Answer
-design_answer name net N cert end = record { status = status_of end; file = Some (file_of name cert); said = ending_text net N end }
-
 -- each node of a layout that was found has a place
-abbrev pub HasPlaces : Network → Ending → Type 0
-HasPlaces N (Found L g) = length L.places ≡ length N.nodes
-HasPlaces N (Undecided ratio spent) = ⊤
-HasPlaces N NoneWithin = ⊤
+abbrev pub HasPlaces : Network → Option LaidOut → Type 0
+HasPlaces N found = IfSome found (λ laid. length laid.layout.places ≡ length N.nodes)
 
 -- an answer to a task, by the text that the module's file has as far as the desk tells
 pub record HasAnswerTo (told : Option Files) (task : Task) (answer : Answer) : Type 0 where
@@ -48,12 +32,13 @@ pub record HasAnswerTo (told : Option Files) (task : Task) (answer : Answer) : T
 -- the answer was given, or couldn't be
 pub data EndsGiving (old new : DeskState) (answer : Answer) : Status → Type 0 where
   given : Gives old new answer → EndsGiving old new answer answer.status
-  ungiven : (which : Which) → FailsToGive old new answer which → EndsGiving old new answer (WriteFault which)
+  ungiven : (which : Which) → FailsToGive old new answer which
+      → EndsGiving old new answer (WriteFault which)
 
 -- so it is with an answer to the task of `design`; or the module's file couldn't be read; or memory was refused
 pub data EndsDesign (d : DesignCommand) (old new : DeskState) : Status → Type 0 where
-  answered : (answer : Answer) (status : Status) → HasAnswerTo old.files (task_of d) answer → EndsGiving old new answer status
-      → EndsDesign d old new status
+  answered : (answer : Answer) (status : Status) → HasAnswerTo old.files (task_of d) answer
+      → EndsGiving old new answer status → EndsDesign d old new status
   unread : FailsToLoad old new → EndsDesign d old new (ReadFault NetFile)
   no_memory : new ≡ old → EndsDesign d old new NoMemory
 

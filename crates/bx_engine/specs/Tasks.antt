@@ -30,7 +30,8 @@ abbrev pub AreTold : Option Files → Files → Type 0
 AreTold told files = IfSome told (λ t. t ≡ files)
 
 -- the desk tells that the words ask for this, and that the module's file has this text
-pub record IsToldText (words : List Text) (told : Option Files) (task : Task) (text : Text) : Type 0 where
+pub record IsToldText (words : List Text) (told : Option Files)
+    (task : Task) (text : Text) : Type 0 where
   pub is_task : IsTask words task
   pub files : Files
   pub told_are : told ≡ Some files

@@ -12,8 +12,8 @@ use Rattle.bx_verilog.specs.Formulas.{Text}
 use Rattle.bx_verilog.specs.Faults.{IsAccepted, IsFault}
 use Rattle.bx_verilog.specs.Elaboration.{net_of}
 use Rattle.bx_network.specs.Networks.{Network}
-use Rattle.bx_map.specs.Maps.{first_constant, mapped, node_count}
-use Rattle.bx_engine.specs.declared.limits.TheConstants.{MODULE_BYTES, MOST_NODES}
+use Rattle.bx_map.specs.Maps.{first_constant, mapping_of, node_count}
+use Rattle.bx_engine.specs.declared.limits.TheConstants.{MODULE_BYTES, MODULE_NODES}
 use Rattle.bx_engine.specs.declared.status.InputFault.{InputFault}
 use Rattle.bx_engine.specs.declared.status.InputFault.TheVariants.{TooLong, Lex, Read, Net, Constant, Nodes}
 use Rattle.bx_engine.specs.declared.status.Which.TheVariants.{NetFile}
@@ -43,7 +43,7 @@ pub record IsGood (text : Text) (m : ModuleTree) : Type 0 where
 -- no output folds to a constant, and the network has few enough nodes to be laid out
 pub record IsMapped (net : Netlist) : Type 0 where
   pub no_constant : first_constant net ≡ None
-  pub few : node_count net ≤ MOST_NODES
+  pub few : node_count net ≤ MODULE_NODES
 
 -- the first output that folds to a constant has this name
 pub record IsConstant (net : Netlist) (name : Text) : Type 0 where
@@ -55,7 +55,7 @@ pub record IsConstant (net : Netlist) (name : Text) : Type 0 where
 pub record HasManyNodes (net : Netlist) (count : ℕ) : Type 0 where
   pub no_constant : first_constant net ≡ None
   pub counted : count ≡ node_count net
-  pub many : MOST_NODES < count
+  pub many : MODULE_NODES < count
 
 -- the text is refused for this
 abbrev pub IsRefused : Text → InputFault → Type 0
@@ -73,4 +73,4 @@ pub record IsTaken (text : Text) (m : ModuleTree) : Type 0 where
 
 -- its network
 abbrev pub network_of : ModuleTree → Network
-network_of m = mapped (net_of m)
+network_of m = mapping_of (net_of m)

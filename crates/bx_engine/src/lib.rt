@@ -5,7 +5,6 @@ mod engine;
 pub mod laws;
 pub mod limits;
 mod load;
-mod permit;
 mod refusal;
 mod report;
 mod status;

@@ -4,4 +4,4 @@
 pub const MODULE_BYTES: u64 = 1_048_576;
 
 /// The most nodes that a network may have to be laid out.
-pub const MOST_NODES: u32 = 96;
+pub const MODULE_NODES: u32 = 96;

@@ -4,9 +4,9 @@
 ghost use Rattle.std.specs.Prelude.{◌≡◌, ◌<◌, length, slice_index_or, [], IfOk, IfErr, OnOk};
 ghost use Rattle.bx_logic.specs.Nets.{output_names};
 ghost use Rattle.bx_engine.specs.Texts.{IsShort};
-ghost use Rattle.bx_engine.specs.Outcomes.{HasNet, HasNetwork, HasModule, ReadsModule, NetEnds, TextEnds, FileEnds};
+ghost use Rattle.bx_engine.specs.Runs.{HasNet, HasNetwork, HasModule, ReadsModule, NetEnds, TextEnds, FileEnds};
 
-use crate::limits::{MODULE_BYTES, MOST_NODES};
+use crate::limits::{MODULE_BYTES, MODULE_NODES};
 use crate::status::{InputFault, Which};
 use bx_desk::{Desk, LoadFault};
 use bx_lex::{LexFault, read_tokens};
@@ -36,7 +36,7 @@ pub(crate) enum NoModule {
 
 impl From<LexFault> for NoModule {
     ghost use Rattle.std.specs.Prelude.{◌≡◌};
-    ghost use Rattle.bx_engine.specs.Outcomes.{lex_end};
+    ghost use Rattle.bx_engine.specs.Runs.{lex_end};
 
     ghost from_gives = { λ fault end. end ≡ lex_end fault };
 
@@ -50,7 +50,7 @@ impl From<LexFault> for NoModule {
 
 impl From<ReadFault> for NoModule {
     ghost use Rattle.std.specs.Prelude.{◌≡◌};
-    ghost use Rattle.bx_engine.specs.Outcomes.{read_end};
+    ghost use Rattle.bx_engine.specs.Runs.{read_end};
 
     ghost from_gives = { λ fault end. end ≡ read_end fault };
 
@@ -64,7 +64,7 @@ impl From<ReadFault> for NoModule {
 
 impl From<NetFault> for NoModule {
     ghost use Rattle.std.specs.Prelude.{◌≡◌};
-    ghost use Rattle.bx_engine.specs.Outcomes.{net_end};
+    ghost use Rattle.bx_engine.specs.Runs.{net_end};
 
     ghost from_gives = { λ fault end. end ≡ net_end fault };
 
@@ -93,7 +93,8 @@ pub(crate) fn load_module<D: Desk>(
     name: &str,
     desk: &mut D,
 ) -> Result<Module, NoModule>
-    ensures source { IfOk result (λ source. ReadsModule (D.state desk.old).files name.now source.net source.mapped) }
+    ensures source { IfOk result (λ source.
+        ReadsModule (D.state desk.old).files name.now source.net source.mapped) }
     ensures ok_stays { OnOk result (D.state desk.new ≡ D.state desk.old) }
     ensures err { IfErr result (FileEnds (D.state desk.old) (D.state desk.new) name.now) }
 {
@@ -134,7 +135,7 @@ fn network_of_net(alloc: Global, net: &Net) -> Result<MappedNet, NoModule>
     ensures network { IfOk result (HasNetwork net.now) }
     ensures err { IfErr result (NetEnds net.now) }
 {
-    match map_net(alloc, net, MOST_NODES) {
+    match map_net(alloc, net, MODULE_NODES) {
         Ok(mapped) => Ok(mapped),
         Err(MapFault::ConstantOutput(port)) => {
             let name = name_of_output(alloc, net, port)?;

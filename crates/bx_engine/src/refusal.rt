@@ -4,9 +4,10 @@ ghost use Rattle.std.specs.Prelude.{◌≡◌, map, [], ◌∷◌, codes, decima
 ghost use Rattle.bx_desk.specs.Desk.{CanPut};
 ghost use Rattle.bx_desk.specs.Pieces.{target_of, PutsOut};
 ghost use Rattle.bx_says.specs.Texts.{spaced};
-ghost use Rattle.bx_says.specs.Words.{word_text};
+ghost use Rattle.bx_desk.specs.Words.{word_text};
 ghost use Rattle.bx_words.specs.Options.{option_name};
-ghost use Rattle.bx_engine.specs.Said.{refusal_text, word_fault_text, memory_text, which_text, construct_text, lex_fault_text, read_fault_text, net_fault_text, input_fault_text};
+ghost use Rattle.bx_engine.specs.Said.{refusal_text, input_fault_text, word_fault_text, memory_text, which_text};
+ghost use Rattle.bx_engine.specs.Said.{lex_fault_text, read_fault_text, net_fault_text, construct_text};
 
 use crate::status::{InputFault, Which};
 use bx_desk::{Desk, Failed, Piece};
@@ -40,7 +41,8 @@ pub(crate) fn put_word_fault<D: Desk>(
     desk: &mut D,
 ) -> Result<(), Failed>
     requires { CanPut (target_of piece.old) (D.state desk.old) }
-    ensures { PutsOut (D.state desk.old) (D.state desk.new) result piece.old piece.new (refusal_text (word_fault_text fault)) }
+    ensures { PutsOut (D.state desk.old) (D.state desk.new) result piece.old piece.new
+        (refusal_text (word_fault_text fault)) }
 {
     match fault {
         WordFault::Command => put_refusal(b"words command", &[], piece, desk),
@@ -73,7 +75,8 @@ pub(crate) fn put_fault<D: Desk>(
     desk: &mut D,
 ) -> Result<(), Failed>
     requires { CanPut (target_of piece.old) (D.state desk.old) }
-    ensures { PutsOut (D.state desk.old) (D.state desk.new) result piece.old piece.new (refusal_text (input_fault_text fault.now)) }
+    ensures { PutsOut (D.state desk.old) (D.state desk.new) result piece.old piece.new
+        (refusal_text (input_fault_text fault.now)) }
 {
     match fault {
         InputFault::TooLong(which) => {
@@ -102,7 +105,8 @@ fn which_word(which: Which) -> &'static [u8]
 // Puts out the line of the refusal of a text that has no tokens.
 fn put_lex_fault<D: Desk>(fault: LexFault, piece: &mut Piece, desk: &mut D) -> Result<(), Failed>
     requires { CanPut (target_of piece.old) (D.state desk.old) }
-    ensures { PutsOut (D.state desk.old) (D.state desk.new) result piece.old piece.new (refusal_text (lex_fault_text fault)) }
+    ensures { PutsOut (D.state desk.old) (D.state desk.new) result piece.old piece.new
+        (refusal_text (lex_fault_text fault)) }
 {
     match fault {
         LexFault::BadByte(place) => put_lex_place(b"byte", place, piece, desk),
@@ -134,7 +138,8 @@ fn put_lex_place<D: Desk>(
 // Puts out the line of the refusal of tokens that are no module.
 fn put_read_fault<D: Desk>(fault: ReadFault, piece: &mut Piece, desk: &mut D) -> Result<(), Failed>
     requires { CanPut (target_of piece.old) (D.state desk.old) }
-    ensures { PutsOut (D.state desk.old) (D.state desk.new) result piece.old piece.new (refusal_text (read_fault_text fault)) }
+    ensures { PutsOut (D.state desk.old) (D.state desk.new) result piece.old piece.new
+        (refusal_text (read_fault_text fault)) }
 {
     match fault {
         ReadFault::Syntax(place) => put_refusal(b"syntax", &[Word::Number(place)], piece, desk),
@@ -168,7 +173,8 @@ fn construct_word(construct: Construct) -> &'static [u8]
 // Puts out the line of the refusal of a module that has no net.
 fn put_net_fault<D: Desk>(fault: &NetFault, piece: &mut Piece, desk: &mut D) -> Result<(), Failed>
     requires { CanPut (target_of piece.old) (D.state desk.old) }
-    ensures { PutsOut (D.state desk.old) (D.state desk.new) result piece.old piece.new (refusal_text (net_fault_text fault.now)) }
+    ensures { PutsOut (D.state desk.old) (D.state desk.new) result piece.old piece.new
+        (refusal_text (net_fault_text fault.now)) }
 {
     match fault {
         NetFault::BadPort(name) => put_named(b"port", name, piece, desk),
@@ -188,7 +194,8 @@ fn put_named<D: Desk>(
     desk: &mut D,
 ) -> Result<(), Failed>
     requires { CanPut (target_of piece.old) (D.state desk.old) }
-    ensures { PutsOut (D.state desk.old) (D.state desk.new) result piece.old piece.new (refusal_text (spaced fault.now (name.now ∷ []))) }
+    ensures { PutsOut (D.state desk.old) (D.state desk.new) result piece.old piece.new
+        (refusal_text (spaced fault.now (name.now ∷ []))) }
 {
     put_refusal(fault, &[Word::Text(name.as_slice())], piece, desk)
 }
@@ -197,7 +204,8 @@ fn put_named<D: Desk>(
 // input, and says nothing. There is a text only since the readers below name it among their faults.
 fn put_memory<D: Desk>(piece: &mut Piece, desk: &mut D) -> Result<(), Failed>
     requires { CanPut (target_of piece.old) (D.state desk.old) }
-    ensures { PutsOut (D.state desk.old) (D.state desk.new) result piece.old piece.new (refusal_text memory_text) }
+    ensures { PutsOut (D.state desk.old) (D.state desk.new) result piece.old piece.new
+        (refusal_text memory_text) }
 {
     put_refusal(b"memory", &[], piece, desk)
 }

@@ -2,8 +2,8 @@
 //! edges; and the forms of one. The texts come from another program or were worked out by hand.
 
 use crate::asserts::{are_bytes, holds, is_number, is_text};
-use bx_cert::{Cert, CertLast, MOST_BUDGET, write_cert};
-use bx_design::{Design, Ending, find_design};
+use bx_cert::{Cert, CertLast, MOST_CERT_BUDGET, write_cert};
+use bx_design::{LaidOut, Solution, find_design};
 use bx_desk::{Failed, MemDesk, Piece};
 use bx_encode::MOST_NODES;
 use bx_grid::{Limits, MOST_LIMIT};
@@ -74,7 +74,7 @@ fn a_wire_has_this_certificate(rt: HostRuntime) -> Result<(), Fail> {
     Ok(())
 }
 
-// The text of the certificate of a design.
+// The text of the certificate of a solution.
 fn cert_text(
     alloc: Global,
     net: &MappedNet,
@@ -82,19 +82,19 @@ fn cert_text(
     area: u32,
     budget: u64,
 ) -> Result<Vec<u8>, Fail> {
-    let design = designed(alloc, net, left_out, area, budget)?;
-    text_of(alloc, &design.cert)
+    let solution = solution_of(alloc, net, left_out, area, budget)?;
+    text_of(alloc, &solution.cert)
 }
 
-// The design without these forms, within this area and this budget.
-fn designed(
+// The solution without these forms, within this area and this budget.
+fn solution_of(
     alloc: Global,
     net: &MappedNet,
     left_out: &[u8],
     area: u32,
     budget: u64,
-) -> Result<Design, Fail> {
-    if area < 1 || area > MOST_LIMIT || budget > MOST_BUDGET || net.node_count() > MOST_NODES {
+) -> Result<Solution, Fail> {
+    if area < 1 || area > MOST_LIMIT || budget > MOST_CERT_BUDGET || net.node_count() > MOST_NODES {
         return Err("too much".into());
     }
     let limits = Limits {
@@ -157,10 +157,10 @@ const AND_FRONT: &str =
 #[test]
 fn a_gate_of_two_operands_takes_six_tiles(rt: HostRuntime) -> Result<(), Fail> {
     let net = conjunction(rt.alloc())?;
-    let design = designed(rt.alloc(), &net, &[], 100, 100_000)?;
-    let text = text_of(rt.alloc(), &design.cert)?;
+    let solution = solution_of(rt.alloc(), &net, &[], 100, 100_000)?;
+    let text = text_of(rt.alloc(), &solution.cert)?;
     holds(&rt, text.starts_with(AND_FRONT.as_bytes()), "front");
-    holds(&rt, has_gate_at(design.cert.last(), 0, 1), "gate");
+    holds(&rt, has_gate_at(solution.cert.last(), 0, 1), "gate");
     Ok(())
 }
 
@@ -180,10 +180,7 @@ fn has_gate_at(last: &CertLast, x: u32, y: u32) -> bool {
 #[test]
 fn what_was_found_has_its_places(rt: HostRuntime) -> Result<(), Fail> {
     let net = passing(rt.alloc())?;
-    let design = designed(rt.alloc(), &net, &[], 100, 100_000)?;
-    let Ending::Found(layout, _) = &design.end else {
-        return Err("found".into());
-    };
+    let layout = laid_out(rt.alloc(), &net)?.layout;
     holds(&rt, layout.ratio.w == 1 && layout.ratio.h == 2, "ratio");
     holds(&rt, layout.places.as_slice() == [0, 1].as_slice(), "places");
     Ok(())
@@ -192,14 +189,20 @@ fn what_was_found_has_its_places(rt: HostRuntime) -> Result<(), Fail> {
 #[test]
 fn what_was_found_has_its_forms(rt: HostRuntime) -> Result<(), Fail> {
     let net = passing(rt.alloc())?;
-    let design = designed(rt.alloc(), &net, &[], 100, 100_000)?;
-    let Ending::Found(_, grid) = &design.end else {
-        return Err("found".into());
-    };
+    let grid = laid_out(rt.alloc(), &net)?.grid;
     is_number(&rt, u64::from(grid.ratio().w), 1, "columns");
-    let names = names_of(rt.alloc(), grid)?;
+    let names = names_of(rt.alloc(), &grid)?;
     is_text(&rt, names.as_str(), "input_r output_l ", "names");
     Ok(())
+}
+
+// The layout of a network, with its forms.
+fn laid_out(alloc: Global, net: &MappedNet) -> Result<LaidOut, Fail> {
+    let Solution { cert: _cert, found } = solution_of(alloc, net, &[], 100, 100_000)?;
+    match found {
+        Some(laid) => Ok(laid),
+        None => Err("found".into()),
+    }
 }
 
 // The names of the forms of a grid, each before a space.

@@ -393,6 +393,54 @@ fn a_call_that_fails_is_told(rt: HostRuntime) -> Result<(), Fail> {
     Ok(())
 }
 
+// Words and a module that are refused, a call that fails, how much it keeps, what is told of it, and what is said.
+const FAILING_REFUSED: &[(&str, &str, u64, u64, &str, &str)] = &[
+    ("design net.v out.cert", "", 1, 0, "net", ""),
+    ("design net.v out.cert", "", 2, 0, "output", ""),
+    ("design net.v out.cert", "", 2, 7, "output", "refused"),
+    (
+        "design net.v out.cert",
+        "",
+        2,
+        4096,
+        "output",
+        "refused syntax 0\n",
+    ),
+    (
+        "design net.v out.cert",
+        "",
+        3,
+        0,
+        "none",
+        "refused syntax 0\n",
+    ),
+    ("design net.v", WIRE, 1, 0, "output", ""),
+    ("design net.v", WIRE, 1, 13, "output", "refused words"),
+    (
+        "design net.v",
+        WIRE,
+        1,
+        4096,
+        "output",
+        "refused words usage\n",
+    ),
+    ("design net.v", WIRE, 2, 0, "none", "refused words usage\n"),
+];
+
+// The calls for a module that is refused are one load and say, and for words that are refused one say: no call stands
+// before these, and none behind them.
+#[test]
+fn a_refusal_that_fails_is_told(rt: HostRuntime) -> Result<(), Fail> {
+    for &(line, text, call, kept, which, said) in FAILING_REFUSED {
+        let mut desk = desk_with(rt.alloc(), text.as_bytes())?;
+        desk.fail_at(call, kept)?;
+        let status = run_words(&rt, rt.alloc(), line, &mut desk)?;
+        is_text(&rt, blamed(&status), which, said);
+        are_bytes(&rt, desk.said(), said.as_bytes(), said);
+    }
+    Ok(())
+}
+
 // What a fault of the desk is about.
 fn blamed(status: &Status) -> &'static str {
     match status {

@@ -12,7 +12,7 @@ use bx_logic::NoMemory;
 use bx_network::MappedNet;
 use bx_proof::{Refutation, Steps};
 use bx_samples::{passing, without};
-use bx_verdict::{Last, MOST_BUDGET, Settled, Verdict, judge, settle};
+use bx_verdict::{Ended, Last, MOST_SEARCH_BUDGET, Settled, judge, settle};
 use std::alloc::Global;
 use std::test::Fail;
 
@@ -43,11 +43,11 @@ fn a_ratio_has_this_verdict(rt: HostRuntime) -> Result<(), Fail> {
 // The verdict of a ratio, as a line.
 fn judged(alloc: Global, ratio: Ratio, left_out: &[u8], budget: u64) -> Result<String, Fail> {
     let net = passing(alloc)?;
-    if budget > MOST_BUDGET || !is_small(&net, ratio) {
+    if budget > MOST_SEARCH_BUDGET || !is_small(&net, ratio) {
         return Err("too much".into());
     }
-    let verdict = judge(alloc, &net, &without(left_out), ratio, budget)?;
-    Ok(line_of_verdict(alloc, &verdict)?)
+    let end = judge(alloc, &net, &without(left_out), ratio, budget)?;
+    Ok(line_of_end(alloc, &end)?)
 }
 
 // Whether formulas are made of this network on such a grid.
@@ -61,11 +61,11 @@ fn is_small(net: &MappedNet, ratio: Ratio) -> bool
     ratio.w >= 1 && ratio.h >= 1 && few
 }
 
-fn line_of_verdict(alloc: Global, verdict: &Verdict) -> Result<String, NoMemory> {
-    match verdict {
-        Verdict::Refuted(proof) => line_of(alloc, proof),
-        Verdict::Found(bits) => line_of_bits(alloc, bits),
-        Verdict::Undecided(spent) => Ok(format!(in alloc; "undecided {spent}")?),
+fn line_of_end(alloc: Global, end: &Ended) -> Result<String, NoMemory> {
+    match end {
+        Ended::Refuted(proof) => line_of(alloc, proof),
+        Ended::Found(bits) => line_of_bits(alloc, bits),
+        Ended::Undecided(spent) => Ok(format!(in alloc; "undecided {spent}")?),
     }
 }
 
@@ -125,7 +125,7 @@ const ORDERS: &[Order] = &[
         100,
         &[2],
         100,
-        "late 0, 46 0 11 1 5 2 13 29 18 45 0, late 0, found 1 3",
+        "late 0, 46 0 11 1 5 2 13 29 18 45 0, late 0, found",
     ),
     (
         2,
@@ -139,7 +139,7 @@ const ORDERS: &[Order] = &[
         6,
         "late 0, 49 0 11 1 13 29 18 46 0, late 0, none",
     ),
-    (2, &[0, 1], 5, "late 0, undecided 1 2 0"),
+    (2, &[0, 1], 5, "late 0, undecided 0"),
     (1, &[], 100, "late 0, none"),
 ];
 
@@ -154,7 +154,7 @@ fn ratios_in_order_are_settled_so(rt: HostRuntime) -> Result<(), Fail> {
 
 // What is known of the ratios of an area, as a line.
 fn settled(alloc: Global, area: u32, left_out: &[u8], budget: u64) -> Result<String, Fail> {
-    if budget > MOST_BUDGET || area < 1 || area > MOST_AREA {
+    if budget > MOST_SEARCH_BUDGET || area < 1 || area > MOST_AREA {
         return Err("too much".into());
     }
     let net = passing(alloc)?;
@@ -190,10 +190,8 @@ fn line_of_settled(alloc: Global, settled: &Settled) -> Result<String, NoMemory>
 
 fn line_of_last(alloc: Global, last: &Last) -> Result<String, NoMemory> {
     match last {
-        Last::Found(ratio, _) => Ok(format!(in alloc; "found {} {}", ratio.w, ratio.h)?),
-        Last::Undecided(ratio, spent) => {
-            Ok(format!(in alloc; "undecided {} {} {spent}", ratio.w, ratio.h)?)
-        }
+        Last::Found(_) => Ok(format!(in alloc; "found")?),
+        Last::Undecided(spent) => Ok(format!(in alloc; "undecided {spent}")?),
         Last::NoneWithin => Ok(format!(in alloc; "none")?),
     }
 }

@@ -1,32 +1,24 @@
 -- Ratios in order: one refutation more, where they end, and that they end in one way.
-use Rattle.std.proofs.Common.{◌≡◌, ℕ, zero, suc, ◌+◌, ◌*◌, ◌≤◌, List, [], ◌∷◌, ◌++◌, length, take, drop, Some, refl, sym, ap, ap₂, ◌∙◌, subst, arith, length-append}
-use Rattle.std.proofs.Math.Seq.{take-suc, drop-cons}
-use Rattle.std.proofs.lemmas.List.{take-append-drop}
-use Rattle.std.proofs.lemmas.Option.{get_or_from_slice_get, slice_get_within}
-use Rattle.std.specs.Prelude.{slice_get, unwrap_or}
+use Rattle.std.proofs.Common.{◌≡◌, ℕ, zero, suc, ◌+◌, ◌*◌, ◌<◌, ◌≤◌, List, [], ◌∷◌, ◌++◌, length, Some, inl, inr, refl, sym, ap, ap₂, ◌∙◌, subst, arith, length-append}
+use Rattle.std.proofs.lemmas.Bool.{cases_lt}
+use Rattle.std.proofs.lemmas.Option.{same_Some, none-some, get_or_from_slice_get, slice_get_cases, slice_get_within}
+use Rattle.std.specs.Prelude.{slice_get}
 use Rattle.bx_grid.specs.declared.ratio.Ratio.{Ratio}
 use Rattle.bx_grid.specs.Orders.{IsWithin, order}
 use Rattle.bx_grid.specs.Tiles.{tile_count, IsGrid}
 use Rattle.bx_grid.proofs.Orders.{order_is_exact}
+use Rattle.bx_layout.specs.Legal.{LacksLayout}
 use Rattle.bx_layout.specs.Permits.{PermitTest}
 use Rattle.bx_network.specs.Networks.{Network}
 use Rattle.bx_proof.specs.declared.refutation.Refutation.{Refutation}
-use Rattle.bx_verdict.specs.Verdicts.{IsVerdict}
-use Rattle.bx_verdict.specs.Settling.{AreInOrder, AreRefuted, IsLast, AreSettled, StandsBehind}
+use Rattle.bx_search.proofs.Following.{get-last}
+use Rattle.bx_verdict.specs.Verdicts.{IsVerdict, Shows}
+use Rattle.bx_verdict.specs.Settling.{AreInOrder, HasVerdict, AreRefuted, IsLastAt, AreSettled, AreTrueAt, ShowInOrder}
 use Rattle.bx_verdict.specs.declared.settled.Last.{Last}
 use Rattle.bx_verdict.specs.declared.settled.Last.TheVariants.{Found, Undecided, NoneWithin}
-use Rattle.bx_verdict.specs.declared.verdict.Verdict.{Verdict}
-use Rattle.bx_verdict.specs.declared.verdict.Verdict.TheVariants.{Refuted, Found as FoundHere, Undecided as UndecidedHere}
+use Rattle.bx_verdict.specs.declared.verdict.Ended.{Ended}
+use Rattle.bx_verdict.specs.declared.verdict.Ended.TheVariants as ended
 use Rattle.bx_verdict.proofs.OneVerdict.{one-verdict}
-
-pub Some-same : {X : Type 0} (x y : X) → Some x ≡ Some y → x ≡ y
-Some-same x y e = ap (λ o. unwrap_or o x) e
-
--- one item more of a list
-pub taken-more : {X : Type 0} (xs : List X) (k : ℕ) (x : X) → slice_get xs k ≡ Some x → take (k + 1) xs ≡ take k xs ++ x ∷ []
-taken-more xs k x at =
-    let next : k + 1 ≡ suc k = omega arith in
-    ap (λ n. take n xs) next ∙ take-suc xs k x (slice_get_within xs k x at) ∙ ap (λ y. take k xs ++ y ∷ []) (get_or_from_slice_get xs k x x at)
 
 -- a ratio of those in order is a grid, and of no more area than a limit is
 pub in-order : (ratios : List Ratio) (k : ℕ) (r : Ratio) → AreInOrder ratios → slice_get ratios k ≡ Some r → IsGrid r × (tile_count r ≤ 144)
@@ -37,127 +29,135 @@ in-order ratios k r (limits, are, same) at =
     let most : limits.area ≤ 144 = are.area in
     (record { wide = within.wide; high = within.high; small = omega (arith, few, most) }, omega (arith, few, most))
 
-left-from : {X : Type 0} (xs : List X) (k : ℕ) (x : X) → slice_get xs k ≡ Some x → drop k xs ≡ x ∷ drop (suc k) xs
-left-from xs k x at = drop-cons xs k x (slice_get_within xs k x at) ∙ ap (λ y. y ∷ drop (suc k) xs) (get_or_from_slice_get xs k x x at)
+-- ---- lists by index
 
--- what the end says, as a verdict has it
-last_of : Ratio → Verdict → Last
-last_of r (Refuted proof) = NoneWithin
-last_of r (FoundHere bits) = Found r bits
-last_of r (UndecidedHere spent) = Undecided r spent
+-- so it is with each item and its index
+abbrev pub Each : {X : Type 0} → (ℕ → X → Type 0) → List X → Type 0
+Each {X} Is xs = (k : ℕ) (x : X) → slice_get xs k ≡ Some x → Is k x
 
-proof_of : Refutation → Verdict → Refutation
-proof_of other (Refuted proof) = proof
-proof_of other (FoundHere bits) = other
-proof_of other (UndecidedHere spent) = other
+get-left : {X : Type 0} (xs ys : List X) (k : ℕ) → k < length xs → slice_get (xs ++ ys) k ≡ slice_get xs k
+get-left [] ys k low = absurd (omega (arith, low))
+get-left (x ∷ xs) ys zero low = refl
+get-left (x ∷ xs) ys (suc k) low = get-left xs ys k (omega (arith, low))
 
-module _ (N : Network) (permit : PermitTest) (budget : ℕ) where
-  refuted-length : (ratios : List Ratio) (proofs : List Refutation) → AreRefuted N permit budget ratios proofs → length proofs ≡ length ratios
-  refuted-length [] [] are = refl
-  refuted-length [] (p ∷ ps) are = absurd are
-  refuted-length (r ∷ rs) [] are = absurd are
-  refuted-length (r ∷ rs) (p ∷ ps) are = ap suc (refuted-length rs ps are.1)
+pub each-more : {X : Type 0} (Is : ℕ → X → Type 0) (xs : List X) (x : X) → Each Is xs → Is (length xs) x → Each Is (xs ++ x ∷ [])
+each-more {X} Is xs x so_far own k y at = elim (cases_lt k (length xs)) [
+  | inl before ↦ so_far k y (sym (get-left xs (x ∷ []) k before) ∙ at)
+  | inr behind ↦ (
+      let here : k ≡ length xs = omega (arith, behind, slice_get_within (xs ++ x ∷ []) k y at, length-append xs (x ∷ [])) in
+      let same : x ≡ y = same_Some x y (sym (get-last xs x k here) ∙ at) in
+      subst (λ (n : ℕ). Is n y) (sym here) (subst (Is (length xs)) same own)
+      )
+]
 
-  refuted-push : (ratios : List Ratio) (proofs : List Refutation) (r : Ratio) (p : Refutation) → AreRefuted N permit budget ratios proofs → IsVerdict N permit r budget (Refuted p)
-      → AreRefuted N permit budget (ratios ++ r ∷ []) (proofs ++ p ∷ [])
-  refuted-push [] [] r p are is = (is, tt)
-  refuted-push [] (q ∷ qs) r p are is = absurd are
-  refuted-push (s ∷ rs) [] r p are is = absurd are
-  refuted-push (s ∷ rs) (q ∷ qs) r p are is = (are.0, refuted-push rs qs r p are.1 is)
+-- two lists with the same items
+same-items : {X : Type 0} (xs ys : List X) → length xs ≡ length ys → Each (λ k x. (y : X) → slice_get ys k ≡ Some y → x ≡ y) xs → xs ≡ ys
+same-items [] [] count each = refl
+same-items [] (y ∷ ys) count each = absurd (omega (arith, count))
+same-items (x ∷ xs) [] count each = absurd (omega (arith, count))
+same-items {X} (x ∷ xs) (y ∷ ys) count each = ap₂ (λ (z : X) (zs : List X). z ∷ zs) (each 0 x refl y refl) (same-items xs ys (omega (arith, count)) (λ k. each (suc k)))
 
-  settled-at : (before behind : List Ratio) (proofs : List Refutation) (last : Last) → AreRefuted N permit budget before proofs → IsLast N permit budget behind last
-      → AreSettled N permit budget (before ++ behind) proofs last
-  settled-at [] behind [] last are is = is
-  settled-at [] behind (p ∷ ps) last are is = absurd are
-  settled-at (r ∷ rs) behind [] last are is = absurd are
-  settled-at (r ∷ rs) behind (p ∷ ps) last are is = (are.0, settled-at rs behind ps last are.1 is)
+module _ (N : Network) (permit : PermitTest) (budget : ℕ) (ratios : List Ratio) where
+  -- ---- one refutation more
 
-  -- what is known of the first k ratios
-  pub record AreRefutedTo (ratios : List Ratio) (k : ℕ) (proofs : List Refutation) : Type 0 where
+  -- the ratio at this index has this verdict, which shows what it should
+  pub record IsKnownAt (k : ℕ) (end : Ended) : Type 0 where
+    pub ratio : Ratio
+    pub at : slice_get ratios k ≡ Some ratio
+    pub verdict : IsVerdict N permit ratio budget end
+    pub shows : Shows N permit ratio end
+
+  -- so many ratios are refuted
+  pub record AreKnownTo (k : ℕ) (proofs : List Refutation) : Type 0 where
     pub count : length proofs ≡ k
-    pub refuted : AreRefuted N permit budget (take k ratios) proofs
+    pub each : Each (λ j proof. IsKnownAt j (ended.Refuted proof)) proofs
 
-  pub refuted-none : (ratios : List Ratio) (proofs : List Refutation) → proofs ≡ [] → AreRefutedTo ratios 0 proofs
-  refuted-none ratios proofs is = subst (AreRefutedTo ratios 0) (sym is) (record { count = refl; refuted = tt })
+  pub known-none : (proofs : List Refutation) → proofs ≡ [] → AreKnownTo 0 proofs
+  known-none proofs is = subst (AreKnownTo 0) (sym is) (record { count = refl; each = λ k proof at. absurd (none-some proof at) })
 
-  pub refuted-more : (ratios : List Ratio) (k : ℕ) (proofs more : List Refutation) (r : Ratio) (p : Refutation) → slice_get ratios k ≡ Some r → more ≡ proofs ++ p ∷ []
-      → AreRefutedTo ratios k proofs → IsVerdict N permit r budget (Refuted p) → AreRefutedTo ratios (k + 1) more
-  refuted-more ratios k proofs more r p at is so_far verdict = subst (AreRefutedTo ratios (k + 1)) (sym is) (record {
+  pub known-more : (k : ℕ) (proofs more : List Refutation) (p : Refutation) → more ≡ proofs ++ p ∷ [] → AreKnownTo k proofs → IsKnownAt k (ended.Refuted p) → AreKnownTo (k + 1) more
+  known-more k proofs more p is so_far own = subst (AreKnownTo (k + 1)) (sym is) (record {
     count = length-append proofs (p ∷ []) ∙ ap (λ n. n + 1) so_far.count;
-    refuted = subst (λ (rs : List Ratio). AreRefuted N permit budget rs (proofs ++ p ∷ [])) (sym (taken-more ratios k r at)) (refuted-push (take k ratios) proofs r p so_far.refuted verdict);
+    each = each-more (λ j proof. IsKnownAt j (ended.Refuted proof)) proofs p so_far.each (subst (λ (n : ℕ). IsKnownAt n (ended.Refuted p)) (sym so_far.count) own);
   })
 
-  pub settled-here : (ratios : List Ratio) (k : ℕ) (proofs : List Refutation) (r : Ratio) (last : Last) → slice_get ratios k ≡ Some r → AreRefutedTo ratios k proofs
-      → ((behind : List Ratio) → IsLast N permit budget (r ∷ behind) last) → AreSettled N permit budget ratios proofs last
-  settled-here ratios k proofs r last at so_far is =
-      subst (λ (rs : List Ratio). AreSettled N permit budget rs proofs last) (take-append-drop k ratios)
-      (settled-at (take k ratios) (drop k ratios) proofs last so_far.refuted
-      (subst (λ (rs : List Ratio). IsLast N permit budget rs last) (sym (left-from ratios k r at)) (is (drop (suc k) ratios))))
+  -- ---- where they end
 
-  pub settled-none : (ratios : List Ratio) (k : ℕ) (proofs : List Refutation) → drop k ratios ≡ [] → AreRefutedTo ratios k proofs → AreSettled N permit budget ratios proofs NoneWithin
-  settled-none ratios k proofs over so_far =
-      subst (λ (rs : List Ratio). AreSettled N permit budget rs proofs NoneWithin) (take-append-drop k ratios)
-      (settled-at (take k ratios) (drop k ratios) proofs NoneWithin so_far.refuted
-      (subst (λ (rs : List Ratio). IsLast N permit budget rs NoneWithin) (sym over) tt))
+  has-verdict : (k : ℕ) (end : Ended) → IsKnownAt k end → HasVerdict N permit budget ratios k end
+  has-verdict k end is = record { ratio = is.ratio; at = is.at; is = is.verdict }
 
-  -- ---- one for each
+  pub refuted-few : (proofs : List Refutation) → AreRefuted N permit budget ratios proofs → length proofs ≤ length ratios
+  refuted-few proofs are = elim (cases_lt (length ratios) (length proofs)) [
+    | inl more ↦ elim (slice_get_cases proofs (length ratios)).1 [
+      | inl (p, within, at, read) ↦ (let has = are (length ratios) p at in absurd (omega (arith, slice_get_within ratios (length ratios) has.ratio has.at)))
+      | inr (past, none) ↦ absurd (omega (arith, more, past))
+    ]
+    | inr few ↦ few
+  ]
 
-  pub settled-each : (ratios : List Ratio) (proofs : List Refutation) (last : Last) → AreSettled N permit budget ratios proofs last → (k : ℕ) (proof : Refutation) → slice_get proofs k ≡ Some proof
-      → (r : Ratio) × (slice_get ratios k ≡ Some r) × IsVerdict N permit r budget (Refuted proof)
-  settled-each ratios [] last is k proof at = cc
-  settled-each [] (p ∷ ps) last is k proof at = absurd is
-  settled-each (r ∷ rs) (p ∷ ps) last is zero proof at = (r, refl, subst (λ (q : Refutation). IsVerdict N permit r budget (Refuted q)) (Some-same p proof at) is.0)
-  settled-each (r ∷ rs) (p ∷ ps) last is (suc k) proof at = settled-each rs ps last is.1 k proof at
+  module _ (k : ℕ) (proofs : List Refutation) (known : AreKnownTo k proofs) where
+    are-refuted : AreRefuted N permit budget ratios proofs
+    are-refuted j proof at = has-verdict j (ended.Refuted proof) (known.each j proof at)
 
-  pub settled-behind : (ratios : List Ratio) (proofs : List Refutation) (last : Last) → AreSettled N permit budget ratios proofs last → StandsBehind ratios (length proofs) last
-  settled-behind [] [] (Found q bits) is = absurd is
-  settled-behind [] [] (Undecided q spent) is = absurd is
-  settled-behind [] [] NoneWithin is = refl
-  settled-behind (r ∷ rs) [] (Found q bits) is = ap Some (sym is.0)
-  settled-behind (r ∷ rs) [] (Undecided q spent) is = ap Some (sym is.0)
-  settled-behind (r ∷ rs) [] NoneWithin is = absurd is
-  settled-behind [] (p ∷ ps) last is = absurd is
-  settled-behind (r ∷ rs) (p ∷ ps) (Found q bits) is = settled-behind rs ps (Found q bits) is.1
-  settled-behind (r ∷ rs) (p ∷ ps) (Undecided q spent) is = settled-behind rs ps (Undecided q spent) is.1
-  settled-behind (r ∷ rs) (p ∷ ps) NoneWithin is = ap suc (settled-behind rs ps NoneWithin is.1)
+    pub settled : (last : Last) → IsLastAt N permit budget ratios k last → AreSettled N permit budget ratios proofs last
+    settled last is = record { refuted = are-refuted; last_at = subst (λ (n : ℕ). IsLastAt N permit budget ratios n last) (sym known.count) is }
+
+    -- the ratios end behind the last index
+    pub at-end : length ratios ≤ k → k ≡ length ratios
+    at-end past = omega (arith, past, refuted-few proofs are-refuted, known.count)
+
+    pub shown : (last : Last) → AreTrueAt N permit ratios k last → ShowInOrder N permit ratios proofs last
+    shown last true-at = record {
+      refuted = λ j proof at. (let is = known.each j proof at in (is.ratio, is.at, is.shows.0));
+      no_layout = λ j r low at. elim (slice_get_cases proofs j).1 [
+        | inl (p, within, own, read) ↦ (let is = known.each j p own in subst (LacksLayout N permit) (same_Some is.ratio r (sym is.at ∙ at)) is.shows.1)
+        | inr (past, none) ↦ absurd (omega (arith, low, past))
+      ];
+      found = subst (λ (n : ℕ). AreTrueAt N permit ratios n last) (sym known.count) true-at;
+    }
 
   -- ---- in one way
 
-  last-verdict : (r : Ratio) (ratios : List Ratio) (last : Last) → IsLast N permit budget (r ∷ ratios) last → (verdict : Verdict) × IsVerdict N permit r budget verdict × (last_of r verdict ≡ last)
-  unfolding last_of
-  last-verdict r ratios (Found q bits) is = (FoundHere bits, is.1, ap (λ (x : Ratio). Found x bits) (sym is.0))
-  last-verdict r ratios (Undecided q spent) is = (UndecidedHere spent, is.1, ap (λ (x : Ratio). Undecided x spent) (sym is.0))
-  last-verdict r ratios NoneWithin is = absurd is
+  one-at : (k : ℕ) (one other : Ended) → HasVerdict N permit budget ratios k one → HasVerdict N permit budget ratios k other → one ≡ other
+  one-at k one other a b =
+      let same : a.ratio ≡ b.ratio = same_Some a.ratio b.ratio (sym a.at ∙ b.at) in
+      one-verdict N permit b.ratio budget one other (subst (λ (r : Ratio). IsVerdict N permit r budget one) same a.is) b.is
 
-  last-none : (last : Last) → IsLast N permit budget [] last → last ≡ NoneWithin
-  last-none (Found q bits) is = absurd is
-  last-none (Undecided q spent) is = absurd is
-  last-none NoneWithin is = refl
+  no-end : (k : ℕ) (end : Ended) → k ≡ length ratios → HasVerdict N permit budget ratios k end → ⊥
+  no-end k end over has = omega (arith, over, slice_get_within ratios k has.ratio has.at)
 
-  one-last : (ratios : List Ratio) (last end : Last) → IsLast N permit budget ratios last → IsLast N permit budget ratios end → last ≡ end
-  one-last [] last end a b = last-none last a ∙ sym (last-none end b)
-  one-last (r ∷ rs) last end a b =
-      let (one, verdict, is) = last-verdict r rs last a in
-      let (other, found, are) = last-verdict r rs end b in
-      sym is ∙ ap (last_of r) (one-verdict N permit r budget one other verdict found) ∙ are
+  one-last : (k : ℕ) (last end : Last) → IsLastAt N permit budget ratios k last → IsLastAt N permit budget ratios k end → last ≡ end
+  one-last k (Found a) (Found b) x y = let same = one-at k (ended.Found a) (ended.Found b) x y in cc
+  one-last k (Found a) (Undecided b) x y = let same = one-at k (ended.Found a) (ended.Undecided b) x y in absurd (cc)
+  one-last k (Undecided a) (Found b) x y = let same = one-at k (ended.Undecided a) (ended.Found b) x y in absurd (cc)
+  one-last k (Undecided a) (Undecided b) x y = let same = one-at k (ended.Undecided a) (ended.Undecided b) x y in cc
+  one-last k (Found a) NoneWithin x y = absurd (no-end k (ended.Found a) y x)
+  one-last k (Undecided a) NoneWithin x y = absurd (no-end k (ended.Undecided a) y x)
+  one-last k NoneWithin (Found b) x y = absurd (no-end k (ended.Found b) x y)
+  one-last k NoneWithin (Undecided b) x y = absurd (no-end k (ended.Undecided b) x y)
+  one-last k NoneWithin NoneWithin x y = refl
 
-  not-last : (r : Ratio) (ratios : List Ratio) (last : Last) (p : Refutation) → IsLast N permit budget (r ∷ ratios) last → IsVerdict N permit r budget (Refuted p) → ⊥
-  not-last r ratios (Found q bits) p is refuted = let same = one-verdict N permit r budget (FoundHere bits) (Refuted p) is.1 refuted in cc
-  not-last r ratios (Undecided q spent) p is refuted = let same = one-verdict N permit r budget (UndecidedHere spent) (Refuted p) is.1 refuted in cc
-  not-last r ratios NoneWithin p is refuted = absurd is
+  not-last : (k : ℕ) (last : Last) (p : Refutation) → IsLastAt N permit budget ratios k last → HasVerdict N permit budget ratios k (ended.Refuted p) → ⊥
+  not-last k (Found a) p x y = let same = one-at k (ended.Found a) (ended.Refuted p) x y in cc
+  not-last k (Undecided a) p x y = let same = one-at k (ended.Undecided a) (ended.Refuted p) x y in cc
+  not-last k NoneWithin p x y = no-end k (ended.Refuted p) x y
 
-  one-proof : (r : Ratio) (p q : Refutation) → IsVerdict N permit r budget (Refuted p) → IsVerdict N permit r budget (Refuted q) → p ≡ q
-  unfolding proof_of
-  one-proof r p q a b = ap (proof_of p) (one-verdict N permit r budget (Refuted p) (Refuted q) a b)
+  not-longer : (proofs others : List Refutation) (last : Last) → AreSettled N permit budget ratios proofs last → AreRefuted N permit budget ratios others → length others ≤ length proofs
+  not-longer proofs others last a b = elim (cases_lt (length proofs) (length others)) [
+    | inl more ↦ elim (slice_get_cases others (length proofs)).1 [
+      | inl (p, within, at, read) ↦ absurd (not-last (length proofs) last p a.last_at (b (length proofs) p at))
+      | inr (past, none) ↦ absurd (omega (arith, more, past))
+    ]
+    | inr few ↦ few
+  ]
 
-  pub one-way : (ratios : List Ratio) (proofs others : List Refutation) (last end : Last) → AreSettled N permit budget ratios proofs last → AreSettled N permit budget ratios others end
+  one-proof : (p q : Refutation) → ended.Refuted p ≡ ended.Refuted q → p ≡ q
+  one-proof p q same = cc
+
+  pub one-way : (proofs others : List Refutation) (last end : Last) → AreSettled N permit budget ratios proofs last → AreSettled N permit budget ratios others end
       → (proofs ≡ others) × (last ≡ end)
-  one-way ratios [] [] last end a b = (refl, one-last ratios last end a b)
-  one-way [] [] (q ∷ qs) last end a b = absurd b
-  one-way [] (p ∷ ps) [] last end a b = absurd a
-  one-way [] (p ∷ ps) (q ∷ qs) last end a b = absurd a
-  one-way (r ∷ rs) [] (q ∷ qs) last end a b = absurd (not-last r rs last q a b.0)
-  one-way (r ∷ rs) (p ∷ ps) [] last end a b = absurd (not-last r rs end p b a.0)
-  one-way (r ∷ rs) (p ∷ ps) (q ∷ qs) last end a b =
-      let rest = one-way rs ps qs last end a.1 b.1 in
-      (ap₂ (λ (x : Refutation) (xs : List Refutation). x ∷ xs) (one-proof r p q a.0 b.0) rest.0, rest.1)
+  one-way proofs others last end a b =
+      let count : length proofs ≡ length others = omega (arith, not-longer proofs others last a b.refuted, not-longer others proofs end b a.refuted) in (
+        same-items proofs others count (λ k p at q own. one-proof p q (one-at k (ended.Refuted p) (ended.Refuted q) (a.refuted k p at) (b.refuted k q own))),
+        one-last (length proofs) last end a.last_at (subst (λ (n : ℕ). IsLastAt N permit budget ratios n end) (sym count) b.last_at),
+      )

@@ -1,6 +1,5 @@
-pub mod Counting
+pub mod Stopping
 pub mod Meaning
 pub mod OneVerdict
 pub mod InOrder
-pub mod Lacking
-pub mod Stopping
+pub mod Existence

@@ -10,11 +10,11 @@ use Rattle.bx_layout.specs.Permits.{PermitTest}
 use Rattle.bx_network.specs.Networks.{Network}
 use Rattle.bx_proof.specs.declared.refutation.Refutation.TheVariants.{Count, Clauses}
 use Rattle.bx_search.specs.declared.outcome.Outcome.{Outcome}
-use Rattle.bx_search.specs.declared.outcome.Outcome.TheVariants.{Sat, Unsat, Undecided as Unfinished, Stopped}
+use Rattle.bx_search.specs.declared.outcome.Outcome.TheVariants as outcome
 use Rattle.bx_search.proofs.OneEnd.{one-end}
 use Rattle.bx_verdict.specs.Verdicts.{EndsWith, IsVerdict}
-use Rattle.bx_verdict.specs.declared.verdict.Verdict.{Verdict}
-use Rattle.bx_verdict.specs.declared.verdict.Verdict.TheVariants.{Refuted, Found, Undecided}
+use Rattle.bx_verdict.specs.declared.verdict.Ended.{Ended}
+use Rattle.bx_verdict.specs.declared.verdict.Ended.TheVariants.{Refuted, Found, Undecided}
 
 -- of two first count proofs none comes before the other
 one-first : (Holds : CountProof → Type 0) (c d : CountProof) → IsFirst Holds (Some c) → IsFirst Holds (Some d) → c ≡ d
@@ -25,37 +25,37 @@ one-first Holds c d one two = elim (one-precedes c d) [
 ]
 
 -- the end of a search, as a verdict; one that is stopped has none
-abbrev pub verdict_of : Outcome → Verdict
-verdict_of (Sat bits) = Found bits
-verdict_of (Unsat steps) = Refuted (Clauses steps)
-verdict_of (Unfinished spent) = Undecided spent
-verdict_of Stopped = Undecided 0
+abbrev pub verdict_of : Outcome → Ended
+verdict_of (outcome.Sat bits) = Found bits
+verdict_of (outcome.Unsat steps) = Refuted (Clauses steps)
+verdict_of (outcome.Undecided spent) = Undecided spent
+verdict_of outcome.Stopped = Undecided 0
 
 module _ (N : Network) (permit : PermitTest) (r : Ratio) (budget : ℕ) where
-  abbrev pub IsCounted : Verdict → Type 0
+  abbrev pub IsCounted : Ended → Type 0
   IsCounted verdict = (c : CountProof) × IsFirst (Refutes N r) (Some c) × (Refuted (Count c) ≡ verdict)
 
-  abbrev pub IsEnded : Verdict → Type 0
+  abbrev pub IsEnded : Ended → Type 0
   IsEnded verdict = (end : Outcome) × IsFirst (Refutes N r) None × EndsWith (formula N permit r) budget end × (verdict_of end ≡ verdict)
 
-  parted : (verdict : Verdict) → IsVerdict N permit r budget verdict → IsCounted verdict ⊎ IsEnded verdict
+  parted : (verdict : Ended) → IsVerdict N permit r budget verdict → IsCounted verdict ⊎ IsEnded verdict
   parted (Refuted (Count c)) first = inl (c, first, refl)
-  parted (Refuted (Clauses steps)) (none, ends) = inr (Unsat steps, none, ends, refl)
-  parted (Found bits) (none, ends) = inr (Sat bits, none, ends, refl)
-  parted (Undecided spent) (none, ends) = inr (Unfinished spent, none, ends, refl)
+  parted (Refuted (Clauses steps)) (none, ends) = inr (outcome.Unsat steps, none, ends, refl)
+  parted (Found bits) (none, ends) = inr (outcome.Sat bits, none, ends, refl)
+  parted (Undecided spent) (none, ends) = inr (outcome.Undecided spent, none, ends, refl)
 
-  one-ended : (one other : Verdict) → IsEnded one → IsEnded other → one ≡ other
+  one-ended : (one other : Ended) → IsEnded one → IsEnded other → one ≡ other
   one-ended one other (end, none, (m, finds), is) (final, free, (n, found), are) =
       sym is ∙ ap verdict_of (one-end (formula N permit r) budget m n end final finds found).0 ∙ are
 
-  one-counted : (one other : Verdict) → IsCounted one → IsCounted other → one ≡ other
+  one-counted : (one other : Ended) → IsCounted one → IsCounted other → one ≡ other
   one-counted one other (c, first, is) (d, least, are) =
       sym is ∙ ap (λ (x : CountProof). Refuted (Count x)) (one-first (Refutes N r) c d first least) ∙ are
 
-  not-both : (one other : Verdict) → IsCounted one → IsEnded other → ⊥
+  not-both : (one other : Ended) → IsCounted one → IsEnded other → ⊥
   not-both one other (c, first, is) (end, none, ends, are) = none c first.0
 
-  pub one-verdict : (one other : Verdict) → IsVerdict N permit r budget one → IsVerdict N permit r budget other → one ≡ other
+  pub one-verdict : (one other : Ended) → IsVerdict N permit r budget one → IsVerdict N permit r budget other → one ≡ other
   one-verdict one other a b = elim (parted one a) [
     | inl counted ↦ elim (parted other b) [ inl more ↦ one-counted one other counted more | inr ended ↦ absurd (not-both one other counted ended) ]
     | inr ended ↦ elim (parted other b) [ inl counted ↦ absurd (not-both other one counted ended) | inr more ↦ one-ended one other ended more ]

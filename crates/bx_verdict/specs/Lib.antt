@@ -1,4 +1,2 @@
-pub mod Refutations
 pub mod Verdicts
 pub mod Settling
-pub mod Sizes

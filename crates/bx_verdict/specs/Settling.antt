@@ -1,6 +1,6 @@
--- What is known of ratios in order: the refutations of all before the first that isn't refuted, and what is
--- known of that one.
-use Rattle.std.specs.Prelude.{◌≡◌, ◌<◌, ℕ, List, [], ◌∷◌, length, slice_get, Some, ⊤}
+-- What is known of ratios in order: the refutations of all before the first that isn't refuted, and how the trial of
+-- that one ended.
+use Rattle.std.specs.Prelude.{◌≡◌, ℕ, List, length, slice_get, Some, ⊤}
 use Rattle.bx_decode.specs.Meaning.{AreTrue}
 use Rattle.bx_grid.specs.Orders.{AreLimits, order}
 use Rattle.bx_grid.specs.declared.ratio.Limits.{Limits}
@@ -8,56 +8,54 @@ use Rattle.bx_grid.specs.declared.ratio.Ratio.{Ratio}
 use Rattle.bx_layout.specs.Permits.{PermitTest}
 use Rattle.bx_network.specs.Networks.{Network}
 use Rattle.bx_proof.specs.declared.refutation.Refutation.{Refutation}
-use Rattle.bx_verdict.specs.Refutations.{IsRefutedBy, LacksLayout}
+use Rattle.bx_refutes.specs.Refutations.{IsRefutedBy, LackLayouts}
 use Rattle.bx_verdict.specs.Verdicts.{IsVerdict}
 use Rattle.bx_verdict.specs.declared.settled.Last.{Last}
 use Rattle.bx_verdict.specs.declared.settled.Last.TheVariants.{Found, Undecided, NoneWithin}
-use Rattle.bx_verdict.specs.declared.verdict.Verdict.TheVariants.{Refuted, Found as FoundHere, Undecided as UndecidedHere}
+use Rattle.bx_verdict.specs.declared.verdict.Ended.{Ended}
+use Rattle.bx_verdict.specs.declared.verdict.Ended.TheVariants as ended
 
 -- all ratios within some limits, in their order
 abbrev pub AreInOrder : List Ratio → Type 0
 AreInOrder ratios = (limits : Limits) × AreLimits limits × (ratios ≡ order limits)
 
-module _ (N : Network) (permit : PermitTest) (budget : ℕ) where
-  -- the verdict of each of these ratios is this refutation
-  abbrev pub AreRefuted : List Ratio → List Refutation → Type 0
-  AreRefuted [] [] = ⊤
-  AreRefuted [] (proof ∷ proofs) = ⊥
-  AreRefuted (r ∷ ratios) [] = ⊥
-  AreRefuted (r ∷ ratios) (proof ∷ proofs) = IsVerdict N permit r budget (Refuted proof) × AreRefuted ratios proofs
+module _ (N : Network) (permit : PermitTest) (budget : ℕ) (ratios : List Ratio) where
+  -- there is a ratio at this index, and this is its verdict
+  pub record HasVerdict (k : ℕ) (end : Ended) : Type 0 where
+    pub ratio : Ratio
+    pub at : slice_get ratios k ≡ Some ratio
+    pub is : IsVerdict N permit ratio budget end
 
-  -- the first of these ratios isn't refuted, and its verdict is this; or there is no ratio
-  abbrev pub IsLast : List Ratio → Last → Type 0
-  IsLast [] NoneWithin = ⊤
-  IsLast [] (Found q bits) = ⊥
-  IsLast [] (Undecided q spent) = ⊥
-  IsLast (r ∷ ratios) NoneWithin = ⊥
-  IsLast (r ∷ ratios) (Found q bits) = (q ≡ r) × IsVerdict N permit r budget (FoundHere bits)
-  IsLast (r ∷ ratios) (Undecided q spent) = (q ≡ r) × IsVerdict N permit r budget (UndecidedHere spent)
+  -- each refutation is the verdict of the ratio at its place
+  abbrev pub AreRefuted : List Refutation → Type 0
+  AreRefuted proofs = (k : ℕ) (proof : Refutation) → slice_get proofs k ≡ Some proof
+      → HasVerdict k (ended.Refuted proof)
 
-  -- each of the ratios is refuted in turn, up to the last that was tried
-  abbrev pub AreSettled : List Ratio → List Refutation → Last → Type 0
-  AreSettled ratios [] last = IsLast ratios last
-  AreSettled [] (proof ∷ proofs) last = ⊥
-  AreSettled (r ∷ ratios) (proof ∷ proofs) last = IsVerdict N permit r budget (Refuted proof) × AreSettled ratios proofs last
+  -- the verdict of the ratio at this index, which isn't refuted; or the ratios end there
+  abbrev pub IsLastAt : ℕ → Last → Type 0
+  IsLastAt k (Found bits) = HasVerdict k (ended.Found bits)
+  IsLastAt k (Undecided spent) = HasVerdict k (ended.Undecided spent)
+  IsLastAt k NoneWithin = k ≡ length ratios
 
--- the bits of a ratio that was found are true
-abbrev pub AreTrueAtLast : Network → PermitTest → Last → Type 0
-AreTrueAtLast N permit (Found r bits) = AreTrue N permit r bits
-AreTrueAtLast N permit (Undecided r spent) = ⊤
-AreTrueAtLast N permit NoneWithin = ⊤
+  -- the first ratios are refuted, one for each refutation, and what is known last is of the one behind them
+  pub record AreSettled (proofs : List Refutation) (last : Last) : Type 0 where
+    pub refuted : AreRefuted proofs
+    pub last_at : IsLastAt (length proofs) last
 
--- each refutation refutes the ratio at its place
-abbrev pub RefuteInOrder : Network → PermitTest → List Ratio → List Refutation → Type 0
-RefuteInOrder N permit ratios proofs = (k : ℕ) (proof : Refutation) → slice_get proofs k ≡ Some proof
-    → (r : Ratio) × (slice_get ratios k ≡ Some r) × IsRefutedBy N permit r proof
+module _ (N : Network) (permit : PermitTest) (ratios : List Ratio) where
+  -- each refutation refutes the ratio at its place
+  abbrev pub RefuteInOrder : List Refutation → Type 0
+  RefuteInOrder proofs = (k : ℕ) (proof : Refutation) → slice_get proofs k ≡ Some proof
+      → (r : Ratio) × (slice_get ratios k ≡ Some r) × IsRefutedBy N permit r proof
 
--- each of the first so many ratios lacks a layout
-abbrev pub LackLayouts : Network → PermitTest → List Ratio → ℕ → Type 0
-LackLayouts N permit ratios count = (k : ℕ) (r : Ratio) → k < count → slice_get ratios k ≡ Some r → LacksLayout N permit r
+  -- the bits of a ratio that is found are true, which is the one at this index
+  abbrev pub AreTrueAt : ℕ → Last → Type 0
+  AreTrueAt k (Found bits) = (r : Ratio) × (slice_get ratios k ≡ Some r) × AreTrue N permit r bits
+  AreTrueAt k (Undecided spent) = ⊤
+  AreTrueAt k NoneWithin = ⊤
 
--- the ratio of which the last thing is known stands right behind the first so many, and there is none where these are all
-abbrev pub StandsBehind : List Ratio → ℕ → Last → Type 0
-StandsBehind ratios count (Found r bits) = slice_get ratios count ≡ Some r
-StandsBehind ratios count (Undecided r spent) = slice_get ratios count ≡ Some r
-StandsBehind ratios count NoneWithin = count ≡ length ratios
+  -- what is known shows so much: the refuted ratios have no legal layout, and the found one has one
+  pub record ShowInOrder (proofs : List Refutation) (last : Last) : Type 0 where
+    pub refuted : RefuteInOrder proofs
+    pub no_layout : LackLayouts N permit ratios (length proofs)
+    pub found : AreTrueAt (length proofs) last

@@ -1,10 +1,9 @@
 //! Laws about the definitions alone, each the clause of a function with an empty body, so that a reader
 //! can trust what the contracts say. Nothing here runs.
-ghost use Rattle.std.specs.Prelude.{◌≡◌, ◌≤◌, ℕ, List, Bool, Some, length, slice_get};
+ghost use Rattle.std.specs.Prelude.{◌≡◌, ℕ, List, Bool};
 ghost use Rattle.bx_cnf.specs.Formulas.{IsFormula};
 ghost use Rattle.bx_decode.specs.Meaning.{AreTrue, Means};
 ghost use Rattle.bx_encode.specs.Formula.{formula};
-ghost use Rattle.bx_encode.specs.Sizes.{IsFrame};
 ghost use Rattle.bx_grid.specs.declared.ratio.Ratio.{Ratio};
 ghost use Rattle.bx_grid.specs.Tiles.{IsGrid};
 ghost use Rattle.bx_layout.specs.declared.layout.Layout.{Layout};
@@ -12,57 +11,43 @@ ghost use Rattle.bx_layout.specs.Legal.{IsLegal};
 ghost use Rattle.bx_layout.specs.Permits.{PermitTest};
 ghost use Rattle.bx_network.specs.Networks.{Network, IsNetwork};
 ghost use Rattle.bx_proof.specs.declared.refutation.Refutation.{Refutation};
-ghost use Rattle.bx_verdict.specs.Refutations.{IsRefutedBy, LacksLayout};
-ghost use Rattle.bx_verdict.specs.Settling.{AreSettled, StandsBehind};
-ghost use Rattle.bx_verdict.specs.Sizes.{most_clauses};
+ghost use Rattle.bx_refutes.specs.Refutations.{IsRefutedBy};
+ghost use Rattle.bx_verdict.specs.Settling.{AreSettled};
 ghost use Rattle.bx_verdict.specs.Verdicts.{IsVerdict};
 ghost use Rattle.bx_verdict.specs.declared.settled.Last.{Last};
-ghost use Rattle.bx_verdict.specs.declared.verdict.Verdict.{Verdict};
-ghost use Rattle.bx_verdict.specs.declared.verdict.Verdict.TheVariants.{Refuted, Found};
-
-/// Where a refutation refutes a ratio, whoever made it, no layout of that ratio is legal under the permit.
-pub fn a_refuted_ratio_has_no_layout()
-    ensures { (N : Network) (permit : PermitTest) (r : Ratio) (proof : Refutation) → IsNetwork N → IsRefutedBy N permit r proof → LacksLayout N permit r }
-{}
+ghost use Rattle.bx_verdict.specs.declared.verdict.Ended.{Ended};
+ghost use Rattle.bx_verdict.specs.declared.verdict.Ended.TheVariants.{Refuted, Found};
 
 /// A verdict that refutes a ratio has a refutation that does.
 pub fn a_verdict_refutes()
     ensures { (N : Network) (permit : PermitTest) (r : Ratio) (budget : ℕ) (proof : Refutation)
-        → IsFormula (formula N permit r) → IsVerdict N permit r budget (Refuted proof) → IsRefutedBy N permit r proof }
+        → IsFormula (formula N permit r) → IsVerdict N permit r budget (Refuted proof)
+        → IsRefutedBy N permit r proof }
 {}
 
 /// The bits of a ratio that is found are true, and mean a layout of that ratio that is legal under the permit.
 pub fn found_bits_mean_a_legal_layout()
-    ensures true_bits { (N : Network) (permit : PermitTest) (r : Ratio) (budget : ℕ) (bits : List Bool)
-        → IsFormula (formula N permit r) → IsVerdict N permit r budget (Found bits) → AreTrue N permit r bits }
+    ensures true_bits { (N : Network) (permit : PermitTest) (r : Ratio) (budget : ℕ)
+        (bits : List Bool)
+        → IsFormula (formula N permit r) → IsVerdict N permit r budget (Found bits)
+        → AreTrue N permit r bits }
     ensures legal { (N : Network) (permit : PermitTest) (r : Ratio) (budget : ℕ) (bits : List Bool)
-        → IsNetwork N → IsGrid r → IsFormula (formula N permit r) → IsVerdict N permit r budget (Found bits)
+        → IsNetwork N → IsGrid r
+        → IsFormula (formula N permit r) → IsVerdict N permit r budget (Found bits)
         → (L : Layout) × (L.ratio ≡ r) × Means N r bits L × IsLegal N permit L }
 {}
 
 /// A ratio has one verdict.
 pub fn a_ratio_has_one_verdict()
-    ensures { (N : Network) (permit : PermitTest) (r : Ratio) (budget : ℕ) (one other : Verdict)
+    ensures { (N : Network) (permit : PermitTest) (r : Ratio) (budget : ℕ) (one other : Ended)
         → IsVerdict N permit r budget one → IsVerdict N permit r budget other → one ≡ other }
 {}
 
 /// So much is known of ratios in order, and no other refutations and no other end.
 pub fn ratios_are_settled_in_one_way()
-    ensures { (N : Network) (permit : PermitTest) (budget : ℕ) (ratios : List Ratio) (proofs others : List Refutation) (last end : Last)
-        → AreSettled N permit budget ratios proofs last → AreSettled N permit budget ratios others end → (proofs ≡ others) × (last ≡ end) }
-{}
-
-/// Refutations stand in the order of their ratios, one for each from the first on, and what is known last is of the
-/// ratio right behind these.
-pub fn refutations_stand_in_order()
-    ensures each { (N : Network) (permit : PermitTest) (budget : ℕ) (ratios : List Ratio) (proofs : List Refutation) (last : Last)
-        → AreSettled N permit budget ratios proofs last → (k : ℕ) (proof : Refutation) → slice_get proofs k ≡ Some proof
-        → (r : Ratio) × (slice_get ratios k ≡ Some r) × IsVerdict N permit r budget (Refuted proof) }
-    ensures behind { (N : Network) (permit : PermitTest) (budget : ℕ) (ratios : List Ratio) (proofs : List Refutation) (last : Last)
-        → AreSettled N permit budget ratios proofs last → StandsBehind ratios (length proofs) last }
-{}
-
-/// The formula of a network of at most 96 nodes on a grid of at most 144 tiles has 20,000,000 clauses at most.
-pub fn a_formula_has_few_clauses()
-    ensures { (N : Network) (permit : PermitTest) (r : Ratio) → IsFrame N r → length (formula N permit r).clauses ≤ most_clauses }
+    ensures { (N : Network) (permit : PermitTest) (budget : ℕ) (ratios : List Ratio)
+        (proofs others : List Refutation) (last end : Last)
+        → AreSettled N permit budget ratios proofs last
+        → AreSettled N permit budget ratios others end
+        → (proofs ≡ others) × (last ≡ end) }
 {}

@@ -4,9 +4,8 @@
 //! `settle` goes through the ratios in their order up to the first that isn't refuted, one formula at a time.
 //!
 //! A refuted ratio has no legal layout under the permit, whatever refutes it, and found bits are such as
-//! `bx_decode` makes a legal layout of. Which counts refute, what clauses say, how a search goes and what bits mean
-//! is for the crates below to say; where a verdict is written and read, and who tries ratios at one time, for those
-//! above.
+//! `bx_decode` makes a legal layout of. What refutes a ratio, how a search goes and what bits mean is for the crates
+//! below to say; where a verdict is written and read, and who tries ratios at one time, for those above.
 #![tactic(auto)]
 
 pub mod laws;
@@ -14,4 +13,4 @@ mod settled;
 mod verdict;
 
 pub use settled::{Last, Settled, settle};
-pub use verdict::{MOST_BUDGET, Verdict, judge};
+pub use verdict::{Ended, MOST_SEARCH_BUDGET, judge};

@@ -2,12 +2,12 @@
 //! isn't refuted.
 ghost use Rattle.std.specs.Prelude.{◌≤◌, length, IfOk};
 ghost use Rattle.bx_layout.specs.Permits.{test_of};
-ghost use Rattle.bx_verdict.specs.Settling.{AreInOrder, AreSettled, RefuteInOrder, LackLayouts, AreTrueAtLast};
+ghost use Rattle.bx_verdict.specs.Settling.{AreInOrder, AreSettled, ShowInOrder};
 
-use crate::verdict::{MOST_BUDGET, Verdict, judge};
+use crate::verdict::{Ended, MOST_SEARCH_BUDGET, judge};
 use bx_cnf::Bits;
 use bx_encode::MOST_NODES;
-use bx_grid::{Ratio, Ratios};
+use bx_grid::Ratios;
 use bx_layout::Permit;
 use bx_logic::NoMemory;
 use bx_network::MappedNet;
@@ -23,13 +23,13 @@ pub struct Settled {
     pub last: Last,
 }
 
-/// The first ratio that isn't refuted.
+/// The first ratio that isn't refuted: the one at the index behind the refutations.
 #[derive(Drop)]
 pub enum Last {
     /// It has a layout: these bits make every clause of its formula true.
-    Found(Ratio, Bits),
+    Found(Bits),
     /// The search spent so much, and its next step would pass the budget.
-    Undecided(Ratio, u64),
+    Undecided(u64),
     /// There is none.
     NoneWithin,
 }
@@ -50,27 +50,22 @@ pub fn settle(
 ) -> Result<Settled, NoMemory>
     requires order { AreInOrder ratios.now }
     requires nodes { length net.now.nodes ≤ MOST_NODES }
-    requires budget { budget ≤ MOST_BUDGET }
-    ensures exact { IfOk result (λ s. AreSettled net.now (test_of permit.now) budget ratios.now s.refutations.items s.last) }
-
-    // Each refutation refutes the ratio at its place, which has no legal layout.
-    ensures refuted { IfOk result (λ s. RefuteInOrder net.now (test_of permit.now) ratios.now s.refutations.items) }
-    ensures no_layout { IfOk result (λ s. LackLayouts net.now (test_of permit.now) ratios.now (length s.refutations.items)) }
-
-    // The bits of a ratio that is found are true.
-    ensures found { IfOk result (λ s. AreTrueAtLast net.now (test_of permit.now) s.last) }
+    requires budget { budget ≤ MOST_SEARCH_BUDGET }
+    ensures exact { IfOk result (λ s.
+        AreSettled net.now (test_of permit.now) budget ratios.now s.refutations.items s.last) }
+    ensures shows { IfOk result (λ s.
+        ShowInOrder net.now (test_of permit.now) ratios.now s.refutations.items s.last) }
 {
-    let _nodes = net.node_count();
     let mut refutations = Vec::new(alloc);
     for k in 0..ratios.len() {
         let ratio = ratios.at(k);
         let last = match judge(alloc, net, permit, ratio, budget)? {
-            Verdict::Refuted(proof) => {
+            Ended::Refuted(proof) => {
                 refutations.push(proof)?;
                 continue;
             }
-            Verdict::Found(bits) => Last::Found(ratio, bits),
-            Verdict::Undecided(spent) => Last::Undecided(ratio, spent),
+            Ended::Found(bits) => Last::Found(bits),
+            Ended::Undecided(spent) => Last::Undecided(spent),
         };
         return Ok(Settled { refutations, last });
     }

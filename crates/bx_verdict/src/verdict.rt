@@ -1,11 +1,11 @@
-//! What is known of one ratio, and who finds it out: first by counting, and then by a search of its formula, which
+//! The verdict of one ratio, and who finds it out: first by counting, and then by a search of its formula, which
 //! nothing stops.
 ghost use Rattle.std.specs.Prelude.{◌≤◌, length, IfOk};
 ghost use Rattle.bx_cnf.specs.Formulas.{IsFormula};
 ghost use Rattle.bx_grid.specs.Tiles.{tile_count, IsGrid};
 ghost use Rattle.bx_layout.specs.Permits.{test_of};
-ghost use Rattle.bx_verdict.specs.Sizes.{most_clauses};
-ghost use Rattle.bx_verdict.specs.Verdicts.{IsEndOf, IsVerdict, HoldsIfRefuted, LacksLayoutIfRefuted, AreTrueIfFound};
+ghost use Rattle.bx_encode.specs.Sizes.{most_clauses};
+ghost use Rattle.bx_verdict.specs.Verdicts.{IsEndOf, IsVerdict, Shows};
 
 use bx_bounds::refute;
 use bx_cnf::{Bits, Clauses};
@@ -20,11 +20,11 @@ use std::alloc::Global;
 
 /// The largest budget of a search. With it the clauses of a formula and those that are learned are still numbered
 /// by 32 bits.
-pub const MOST_BUDGET: u64 = 4_000_000_000;
+pub const MOST_SEARCH_BUDGET: u64 = 4_000_000_000;
 
-/// What is known of a ratio.
+/// How the trial of a ratio ended.
 #[derive(Drop)]
-pub enum Verdict {
+pub enum Ended {
     /// It has no layout, for this reason.
     Refuted(Refutation),
     /// These bits make every clause of its formula true, and mean a layout.
@@ -45,42 +45,38 @@ pub fn judge(
     permit: &Permit,
     ratio: Ratio,
     budget: u64,
-) -> Result<Verdict, NoMemory>
+) -> Result<Ended, NoMemory>
     requires grid { IsGrid ratio }
     requires nodes { length net.now.nodes ≤ MOST_NODES }
     requires area { tile_count ratio ≤ MOST_AREA }
-    requires budget { budget ≤ MOST_BUDGET }
+    requires budget { budget ≤ MOST_SEARCH_BUDGET }
     ensures exact { IfOk result (IsVerdict net.now (test_of permit.now) ratio budget) }
-
-    // A ratio that is refuted is so by its refutation, and has no legal layout.
-    ensures refuted { IfOk result (HoldsIfRefuted net.now (test_of permit.now) ratio) }
-    ensures no_layout { IfOk result (LacksLayoutIfRefuted net.now (test_of permit.now) ratio) }
-
-    // The bits of one that is found are true.
-    ensures found { IfOk result (AreTrueIfFound net.now (test_of permit.now) ratio) }
+    ensures shows { IfOk result (Shows net.now (test_of permit.now) ratio) }
 {
+    // (known from here on: the net is a network)
     let _nodes = net.node_count();
     if let Some(proof) = refute(net, ratio) {
-        return Ok(Verdict::Refuted(Refutation::Count(proof)));
+        return Ok(Ended::Refuted(Refutation::Count(proof)));
     }
     let clauses = encode(alloc, net, permit, ratio)?;
+    // (and the clauses are a formula)
     let _count = clauses.len();
     search(alloc, &clauses, budget)
 }
 
-// How the search of a formula ends, as a verdict. No pulse stops it: one that says yes as often as 64 bits count is
-// asked once for each learned clause, and so for each of which the budget pays.
-fn search(alloc: Global, clauses: &Clauses, budget: u64) -> Result<Verdict, NoMemory>
+// How the search of a formula ends. No pulse stops it: one that says yes as often as 64 bits count is asked once for
+// each learned clause, and so for each of which the budget pays.
+fn search(alloc: Global, clauses: &Clauses, budget: u64) -> Result<Ended, NoMemory>
     requires formed { IsFormula clauses.now }
     requires few { length clauses.now.clauses ≤ most_clauses }
-    requires budget { budget ≤ MOST_BUDGET }
+    requires budget { budget ≤ MOST_SEARCH_BUDGET }
     ensures { IfOk result (IsEndOf clauses.now budget) }
 {
     let mut pulse = Steady::new();
     match solve(alloc, clauses, budget, &mut pulse)? {
-        Outcome::Sat(bits) => Ok(Verdict::Found(bits)),
-        Outcome::Unsat(steps) => Ok(Verdict::Refuted(Refutation::Clauses(steps))),
-        Outcome::Undecided(spent) => Ok(Verdict::Undecided(spent)),
+        Outcome::Sat(bits) => Ok(Ended::Found(bits)),
+        Outcome::Unsat(steps) => Ok(Ended::Refuted(Refutation::Clauses(steps))),
+        Outcome::Undecided(spent) => Ok(Ended::Undecided(spent)),
         Outcome::Stopped => unreachable!(),
     }
 }

@@ -1,12 +1,10 @@
 //! What the answer to a module that is taken is worth. Nothing here runs.
-ghost use Rattle.std.specs.Prelude.{ℕ, List};
+ghost use Rattle.std.specs.Prelude.{ℕ, List, Option};
 ghost use Rattle.bx_cert.specs.Certs.{Certificate};
 ghost use Rattle.bx_cert.specs.Texts.{cert_text};
-ghost use Rattle.bx_design.specs.Designs.{IsDesign};
-ghost use Rattle.bx_design.specs.declared.ending.Ending.TheVariants.{Found, Undecided, NoneWithin};
+ghost use Rattle.bx_design.specs.declared.solution.LaidOut.{LaidOut};
 ghost use Rattle.bx_grid.specs.Orders.{IsWithin, Precedes};
 ghost use Rattle.bx_grid.specs.declared.ratio.Ratio.{Ratio};
-ghost use Rattle.bx_layout.specs.Grids.{FormGrid};
 ghost use Rattle.bx_layout.specs.Legal.{IsLegal};
 ghost use Rattle.bx_layout.specs.Permits.{all_forms};
 ghost use Rattle.bx_layout.specs.declared.layout.Layout.{Layout};
@@ -14,36 +12,39 @@ ghost use Rattle.bx_syntax.specs.Parts.{ModuleTree};
 ghost use Rattle.bx_verilog.specs.Elaboration.{net_of};
 ghost use Rattle.bx_verilog.specs.Equations.{module_of};
 ghost use Rattle.bx_verilog.specs.Formulas.{Text};
-ghost use Rattle.bx_engine.specs.Said.{ending_text};
+ghost use Rattle.bx_engine.specs.Answers.{Solves};
+ghost use Rattle.bx_engine.specs.Said.{search_text};
 ghost use Rattle.bx_engine.specs.Tasks.{Task, IsTask};
 ghost use Rattle.bx_engine.specs.Texts.{IsTaken, network_of};
-ghost use Rattle.bx_engine.specs.Worth.{ComputesModule, IsFound, IsLeftUndecided, IsNoneWithin};
+ghost use Rattle.bx_engine.specs.Worth.{ComputesModule, IsFound, IsLeftUndecided, IsNoneWithin, IsWorth};
 
 /// The network of a module that is taken has its ports, and computes it.
 pub fn a_network_computes_its_module()
-    ensures { (text : Text) (m : ModuleTree) → IsTaken text m → ComputesModule (net_of m) (module_of m) (network_of m) }
+    ensures { (text : Text) (m : ModuleTree) → IsTaken text m
+        → ComputesModule (net_of m) (module_of m) (network_of m) }
 {}
 
 /// Whatever came of the search, what is written and said of it is worth what it says.
 pub fn an_answer_is_worth_what_it_says()
-    ensures found { (words : List Text) (task : Task) (text : Text) (m : ModuleTree) (cert : Certificate) (L : Layout) (g : FormGrid)
-        → IsTask words task → IsTaken text m → IsDesign (network_of m) all_forms task.limits task.budget cert (Found L g)
-        → IsFound task m L.ratio (cert_text cert) (ending_text (net_of m) (network_of m) (Found L g)) }
-    ensures undecided { (words : List Text) (task : Task) (text : Text) (m : ModuleTree) (cert : Certificate) (ratio : Ratio) (spent : ℕ)
-        → IsTask words task → IsTaken text m → IsDesign (network_of m) all_forms task.limits task.budget cert (Undecided ratio spent)
-        → IsLeftUndecided task m ratio spent (cert_text cert) (ending_text (net_of m) (network_of m) (Undecided ratio spent)) }
-    ensures none_within { (words : List Text) (task : Task) (text : Text) (m : ModuleTree) (cert : Certificate)
-        → IsTask words task → IsTaken text m → IsDesign (network_of m) all_forms task.limits task.budget cert NoneWithin
-        → IsNoneWithin task m (cert_text cert) (ending_text (net_of m) (network_of m) NoneWithin) }
+    ensures { (words : List Text) (task : Task) (text : Text) (m : ModuleTree)
+        (cert : Certificate) (found : Option LaidOut)
+        → IsTask words task → IsTaken text m → Solves task m cert found
+        → IsWorth task m cert.last (cert_text cert)
+        (search_text (net_of m) (network_of m) cert.last found) }
 {}
 
 /// What was found is the least: no layout within the limits of less area, or of the same area and less width, is
 /// legal. So it is with a ratio that is left undecided; and where there is none within the limits, none is legal.
 pub fn what_is_found_is_least()
-    ensures found { (task : Task) (m : ModuleTree) (ratio : Ratio) (bytes said : Text) → IsFound task m ratio bytes said
-        → (L : Layout) → IsWithin task.limits L.ratio → Precedes L.ratio ratio → IsLegal (network_of m) all_forms L → ⊥ }
-    ensures undecided { (task : Task) (m : ModuleTree) (ratio : Ratio) (spent : ℕ) (bytes said : Text) → IsLeftUndecided task m ratio spent bytes said
-        → (L : Layout) → IsWithin task.limits L.ratio → Precedes L.ratio ratio → IsLegal (network_of m) all_forms L → ⊥ }
-    ensures none_within { (task : Task) (m : ModuleTree) (bytes said : Text) → IsNoneWithin task m bytes said
+    ensures found { (task : Task) (m : ModuleTree) (ratio : Ratio) (bytes said : Text)
+        → IsFound task m ratio bytes said
+        → (L : Layout) → IsWithin task.limits L.ratio → Precedes L.ratio ratio
+        → IsLegal (network_of m) all_forms L → ⊥ }
+    ensures undecided { (task : Task) (m : ModuleTree) (ratio : Ratio) (spent : ℕ)
+        (bytes said : Text) → IsLeftUndecided task m ratio spent bytes said
+        → (L : Layout) → IsWithin task.limits L.ratio → Precedes L.ratio ratio
+        → IsLegal (network_of m) all_forms L → ⊥ }
+    ensures none_within { (task : Task) (m : ModuleTree) (bytes said : Text)
+        → IsNoneWithin task m bytes said
         → (L : Layout) → IsWithin task.limits L.ratio → IsLegal (network_of m) all_forms L → ⊥ }
 {}

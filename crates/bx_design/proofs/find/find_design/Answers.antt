@@ -1,37 +1,41 @@
--- What is settled is read, and makes the certificate.
+-- What is settled is told, and makes the certificate.
+use Rattle.std.proofs.Common.{List, length, refl, sym, subst}
 use Rattle.bx_layout.specs.Permits.{test_of}
-use Rattle.bx_design.proofs.Kept.{are-ratios, few, readable, design, kept}
+use Rattle.bx_proof.specs.declared.refutation.Refutation.{Refutation}
+use Rattle.bx_design.specs.Making.{IsReadable}
+use Rattle.bx_design.specs.Solutions.{IsTold}
+use Rattle.bx_design.proofs.Certified.{certified}
+use Rattle.bx_design.proofs.Finding.{few, readable, solution}
 use Rattle.bx_design.proofs.Minimal.{minimal}
 use Rattle.bx_design.proofs.find.find_design.Goals as goal
 
-pub end_of-requires-clause-readable : goal.end_of-requires-clause-readable
-end_of-requires-clause-readable c =
-    readable c.args.net.now (test_of c.args.permit.now) c.args.limits c.args.budget c.new-ratios.result c.in_ok-refutations.field-0.refutations.items c.in_ok-refutations.field-0.last
-    c.new-ratios.ensures c.requires.limits c.in_ok-refutations.ensures.exact c.in_ok-refutations.ensures.found
+pub tell-requires-clause-readable : goal.tell-requires-clause-readable
+tell-requires-clause-readable c =
+    subst (λ (ps : List Refutation). IsReadable c.args.net.now (test_of c.args.permit.now) c.new-ratios.result (length ps) c.in_ok-refutations.field-0.last) (sym c.deref.ensures.value)
+    (readable c.args.net.now (test_of c.args.permit.now) c.args.limits c.args.budget c.new-ratios.result c.in_ok-refutations.field-0.refutations.items c.in_ok-refutations.field-0.last
+    c.new-ratios.ensures c.in_ok-refutations.ensures.exact c.requires.limits c.in_ok-refutations.ensures.shows.found)
 
-pub sections_of-requires-clause-few : goal.sections_of-requires-clause-few
-sections_of-requires-clause-few c =
+pub make_sections-requires : goal.make_sections-requires
+make_sections-requires c =
     few c.args.net.now (test_of c.args.permit.now) c.args.limits c.args.budget c.new-ratios.result c.in_ok-refutations.field-0.refutations.items c.in_ok-refutations.field-0.last
-    c.new-ratios.ensures c.requires.limits c.in_ok-refutations.ensures.exact
-
-pub sections_of-requires-clause-ratios : goal.sections_of-requires-clause-ratios
-sections_of-requires-clause-ratios c = are-ratios c.args.limits c.new-ratios.result c.new-ratios.ensures c.requires.limits
+    c.new-ratios.ensures c.in_ok-refutations.ensures.exact
 
 pub new-cert-requires : goal.new-cert-requires
 new-cert-requires c =
-    kept c.args.net.now (test_of c.args.permit.now) c.args.limits c.args.budget c.new-ratios.result c.in_ok-refutations.field-0.refutations.items c.in_ok-refutations.field-0.last
-    c.new-ratios.ensures c.requires.limits c.in_ok-refutations.ensures.exact c.in_ok-end.end c.in_ok-end.ensures c.in_ok-sections.sections c.in_ok-told.told
-    c.node_count-nodes.ensures.network c.requires.nodes c.requires.budget c.in_ok-sections.ensures.kept c.in_ok-told.ensures
+    certified c.args.net.now (test_of c.args.permit.now) c.args.limits c.args.budget c.node_count-nodes.ensures.network c.requires.nodes c.requires.limits c.requires.budget _ c.in_ok-told.told.found
+    (solution c.args.net.now (test_of c.args.permit.now) c.args.limits c.args.budget c.new-ratios.result c.in_ok-refutations.field-0.refutations.items c.in_ok-refutations.field-0.last
+    c.new-ratios.ensures c.in_ok-refutations.ensures.exact c.in_ok-sections.sections c.in_ok-told.told.last c.in_ok-told.told.found _ c.in_ok-sections.ensures
+    (subst (λ (ps : List Refutation). IsTold c.args.net.now c.new-ratios.result (length ps) c.in_ok-refutations.field-0.last c.in_ok-told.told.last c.in_ok-told.told.found) c.deref.ensures.value c.in_ok-told.ensures) refl)
 
 pub returns-clause-exact : goal.returns-clause-exact
 returns-clause-exact c =
-    design c.args.net.now (test_of c.args.permit.now) c.args.limits c.args.budget c.new-ratios.result c.in_ok-refutations.field-0.refutations.items c.in_ok-refutations.field-0.last
-    c.new-ratios.ensures c.requires.limits c.in_ok-refutations.ensures.exact c.in_ok-end.end c.in_ok-end.ensures c.in_ok-sections.sections c.in_ok-told.told
-    c.new-cert.result c.in_ok-sections.ensures.are c.in_ok-told.ensures c.new-cert.ensures
+    solution c.args.net.now (test_of c.args.permit.now) c.args.limits c.args.budget c.new-ratios.result c.in_ok-refutations.field-0.refutations.items c.in_ok-refutations.field-0.last
+    c.new-ratios.ensures c.in_ok-refutations.ensures.exact c.in_ok-sections.sections c.in_ok-told.told.last c.in_ok-told.told.found c.new-cert.result c.in_ok-sections.ensures
+    (subst (λ (ps : List Refutation). IsTold c.args.net.now c.new-ratios.result (length ps) c.in_ok-refutations.field-0.last c.in_ok-told.told.last c.in_ok-told.told.found) c.deref.ensures.value c.in_ok-told.ensures) c.new-cert.ensures
 
 pub returns-clause-minimal : goal.returns-clause-minimal
 returns-clause-minimal c =
-    minimal c.args.net.now (test_of c.args.permit.now) c.args.limits c.args.budget c.new-cert.result c.in_ok-end.end c.node_count-nodes.ensures.network c.requires.nodes c.requires.limits
-    (design c.args.net.now (test_of c.args.permit.now) c.args.limits c.args.budget c.new-ratios.result c.in_ok-refutations.field-0.refutations.items c.in_ok-refutations.field-0.last
-    c.new-ratios.ensures c.requires.limits c.in_ok-refutations.ensures.exact c.in_ok-end.end c.in_ok-end.ensures c.in_ok-sections.sections c.in_ok-told.told
-    c.new-cert.result c.in_ok-sections.ensures.are c.in_ok-told.ensures c.new-cert.ensures)
+    minimal c.args.net.now (test_of c.args.permit.now) c.args.limits c.args.budget c.node_count-nodes.ensures.network c.requires.nodes c.requires.limits c.new-cert.result c.in_ok-told.told.found
+    (solution c.args.net.now (test_of c.args.permit.now) c.args.limits c.args.budget c.new-ratios.result c.in_ok-refutations.field-0.refutations.items c.in_ok-refutations.field-0.last
+    c.new-ratios.ensures c.in_ok-refutations.ensures.exact c.in_ok-sections.sections c.in_ok-told.told.last c.in_ok-told.told.found c.new-cert.result c.in_ok-sections.ensures
+    (subst (λ (ps : List Refutation). IsTold c.args.net.now c.new-ratios.result (length ps) c.in_ok-refutations.field-0.last c.in_ok-told.told.last c.in_ok-told.told.found) c.deref.ensures.value c.in_ok-told.ensures) c.new-cert.ensures)

@@ -1,8 +1,8 @@
 use Rattle.std.proofs.Common.{refl, rules}
 use Rattle.bx_engine.specs.Steps.{task_of, answered, no_memory}
-use Rattle.bx_engine.proofs.Designs.{small}
-use Rattle.bx_engine.proofs.Permits.{all-design, small-budget}
-use Rattle.bx_engine.proofs.Serving.{has_design, places-all}
+use Rattle.bx_engine.proofs.Networks.{small}
+use Rattle.bx_engine.proofs.Permits.{all-solution, small-budget}
+use Rattle.bx_engine.proofs.Serving.{has_solution, places-all}
 use Rattle.bx_engine.proofs.engine.lay_out.Goals as goal
 
 pub find_design-requires-clause-nodes : goal.find_design-requires-clause-nodes
@@ -17,7 +17,7 @@ give-requires g c = places-all _ _ _ _ _ _ c.in-Ok.ensures.minimal
 pub returns-in-Ok : goal.returns-in-Ok
 returns-in-Ok g c =
     answered _ _
-    (has_design _ (task_of c.args.command.now) _ _ c.requires _ _ (all-design _ _ _ _ _ _ _ c.all_forms.ensures (λ r t form h. (c.same-permit.ensures r t form).1 h) c.in-Ok.ensures.exact))
+    (has_solution _ (task_of c.args.command.now) _ _ c.requires _ _ (all-solution _ _ _ _ _ _ _ (λ form is. (c.all.ensures form).1 is) (λ r t form h. (c.same-permit.ensures r t form).1 h) c.in-Ok.ensures.exact))
     c.give.ensures
 
 pub returns-in-Err : goal.returns-in-Err

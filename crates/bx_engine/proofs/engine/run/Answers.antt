@@ -1,5 +1,5 @@
 use Rattle.bx_words.specs.Verbs.{texts}
-use Rattle.bx_engine.proofs.Clauses.{answered, exact, words_only, words_all, words_said, refused_only, refused, refused_said, searched_only, taken_designed, searched, found, undecided, none_within, there, settled_no_fault, read_fault, faults_rose, complete, no_memory_stays, write_fault, none_fell, others_stay}
+use Rattle.bx_engine.proofs.Clauses.{answered, exact, words_only, words_all, words_said, refused_only, refused, refused_said, searched_only, taken_solved, searched, found, undecided, none_within, there, settled_no_fault, read_fault, faults_rose, complete, no_memory_stays, write_fault, none_fell, others_stay}
 use Rattle.bx_engine.proofs.engine.run.Goals as goal
 
 pub returns-clause-answered : goal.returns-clause-answered
@@ -30,7 +30,7 @@ pub returns-clause-searched_only : goal.returns-clause-searched_only
 returns-clause-searched_only g c = λ is task text told. searched_only (texts c.args.words.now) (g.D.Desk.state c.args.desk.now) (g.D.Desk.state c.serve.new.desk) task text told c.serve.result c.serve.ensures is
 
 pub returns-clause-taken : goal.returns-clause-taken
-returns-clause-taken g c = λ settled task text told. taken_designed (texts c.args.words.now) (g.D.Desk.state c.args.desk.now) (g.D.Desk.state c.serve.new.desk) task text told c.serve.result c.serve.ensures settled
+returns-clause-taken g c = λ settled task text told. taken_solved (texts c.args.words.now) (g.D.Desk.state c.args.desk.now) (g.D.Desk.state c.serve.new.desk) task text told c.serve.result c.serve.ensures settled
 
 pub returns-clause-searched : goal.returns-clause-searched
 returns-clause-searched g c = λ settled task text told. searched (texts c.args.words.now) (g.D.Desk.state c.args.desk.now) (g.D.Desk.state c.serve.new.desk) task text told c.serve.result c.serve.ensures settled

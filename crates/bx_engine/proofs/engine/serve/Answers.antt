@@ -1,5 +1,5 @@
 use Rattle.std.proofs.Common.{refl}
-use Rattle.bx_engine.specs.Outcomes.{no_memory}
+use Rattle.bx_engine.specs.Runs.{no_memory}
 use Rattle.bx_engine.proofs.Serving.{serves, serves_misuse}
 use Rattle.bx_engine.proofs.engine.serve.Goals as goal
 

@@ -1,6 +1,6 @@
 use Rattle.std.proofs.Common.{subst}
 use Rattle.bx_engine.specs.declared.load.NoModule.{NoModule}
-use Rattle.bx_engine.specs.Outcomes.{FileEnds}
+use Rattle.bx_engine.specs.Runs.{FileEnds}
 use Rattle.bx_engine.specs.Steps.{unread, no_memory}
 use Rattle.bx_engine.proofs.Serving.{same_desk, same_reads, refuses}
 use Rattle.bx_engine.proofs.engine.serve_design.Goals as goal

@@ -1,12 +1,10 @@
 -- One refutation more, and what is known at the end.
-use Rattle.std.proofs.Common.{List, ◌∷◌, refl, sym, subst, arith}
-use Rattle.std.proofs.lemmas.List.{drop_all}
-use Rattle.bx_grid.specs.declared.ratio.Ratio.{Ratio}
+use Rattle.std.proofs.Common.{sym, subst, arith}
 use Rattle.bx_layout.specs.Permits.{test_of}
-use Rattle.bx_verdict.specs.Verdicts.{IsVerdict, HoldsIfRefuted}
-use Rattle.bx_verdict.specs.Settling.{IsLast}
-use Rattle.bx_verdict.proofs.InOrder.{in-order, refuted-more, settled-here, settled-none}
-use Rattle.bx_verdict.proofs.Lacking.{refute-more, refuted-lack}
+use Rattle.bx_verdict.specs.Verdicts.{IsVerdict, Shows}
+use Rattle.bx_verdict.specs.Settling.{IsLastAt, AreTrueAt}
+use Rattle.bx_verdict.specs.declared.settled.Last.TheVariants.{NoneWithin}
+use Rattle.bx_verdict.proofs.InOrder.{in-order, known-more, settled, shown, at-end}
 use Rattle.bx_verdict.proofs.settled.settle.Goals as goal
 use Rattle.bx_verdict.proofs.settled.settle.Goals.{in-Found, in-Undecided}
 
@@ -17,36 +15,40 @@ pub judge-requires-clause-area : goal.judge-requires-clause-area
 judge-requires-clause-area c = (in-order c.args.ratios.now c.loop-k.k c.at-ratio.result c.requires.order c.at-ratio.ensures).1
 
 pub loop-k-preserved : goal.loop-k-preserved
-loop-k-preserved c = (
-  refuted-more c.args.net.now (test_of c.args.permit.now) c.args.budget c.args.ratios.now c.loop-k.k c.loop-k.refutations.items c.push.new.self.items c.at-ratio.result c.in-Refuted.proof
-      c.at-ratio.ensures c.in_ok-push-in-Refuted.ensures.items c.loop-k.invariant.0
-      (subst (IsVerdict c.args.net.now (test_of c.args.permit.now) c.at-ratio.result c.args.budget) c.in-Refuted.is c.in_ok-proof.ensures.exact),
-  refute-more c.args.net.now (test_of c.args.permit.now) c.args.ratios.now c.loop-k.k c.loop-k.refutations.items c.push.new.self.items c.at-ratio.result c.in-Refuted.proof
-      c.loop-k.invariant.0.count c.at-ratio.ensures c.in_ok-push-in-Refuted.ensures.items c.loop-k.invariant.1
-      (subst (HoldsIfRefuted c.args.net.now (test_of c.args.permit.now) c.at-ratio.result) c.in-Refuted.is c.in_ok-proof.ensures.refuted),
-)
+loop-k-preserved c =
+    known-more c.args.net.now (test_of c.args.permit.now) c.args.budget c.args.ratios.now c.loop-k.k c.loop-k.refutations.items c.push.new.self.items c.in-Refuted.proof
+    c.in_ok-push-in-Refuted.ensures.items c.loop-k.invariant (record {
+      ratio = c.at-ratio.result;
+      at = c.at-ratio.ensures;
+      verdict = subst (IsVerdict c.args.net.now (test_of c.args.permit.now) c.at-ratio.result c.args.budget) c.in-Refuted.is c.in_ok-proof.ensures.exact;
+      shows = subst (Shows c.args.net.now (test_of c.args.permit.now) c.at-ratio.result) c.in-Refuted.is c.in_ok-proof.ensures.shows;
+    })
 
 pub returns-in-loop-k-clause-exact : goal.returns-in-loop-k-clause-exact
 returns-in-loop-k-clause-exact c =
-    settled-here c.args.net.now (test_of c.args.permit.now) c.args.budget c.args.ratios.now c.loop-k.k c.loop-k.refutations.items c.at-ratio.result c.match-branch-2.last
-    c.at-ratio.ensures c.loop-k.invariant.0 last where
-      last : (behind : List Ratio) → IsLast c.args.net.now (test_of c.args.permit.now) c.args.budget (c.at-ratio.result ∷ behind) c.match-branch-2.last
-      last behind = elim c.match-branch-2.branch [
-        | in-Found w ↦ subst (IsLast c.args.net.now (test_of c.args.permit.now) c.args.budget (c.at-ratio.result ∷ behind)) (sym w.last-is)
-            (refl, subst (IsVerdict c.args.net.now (test_of c.args.permit.now) c.at-ratio.result c.args.budget) w.in-Found.is c.in_ok-proof.ensures.exact)
-        | in-Undecided w ↦ subst (IsLast c.args.net.now (test_of c.args.permit.now) c.args.budget (c.at-ratio.result ∷ behind)) (sym w.last-is)
-            (refl, subst (IsVerdict c.args.net.now (test_of c.args.permit.now) c.at-ratio.result c.args.budget) w.in-Undecided.is c.in_ok-proof.ensures.exact)
-      ]
+    settled c.args.net.now (test_of c.args.permit.now) c.args.budget c.args.ratios.now c.loop-k.k c.loop-k.refutations.items c.loop-k.invariant c.match-branch-2.last
+    (elim c.match-branch-2.branch [
+      | in-Found w ↦ subst (IsLastAt c.args.net.now (test_of c.args.permit.now) c.args.budget c.args.ratios.now c.loop-k.k) (sym w.last-is)
+          (record { ratio = c.at-ratio.result; at = c.at-ratio.ensures; is = subst (IsVerdict c.args.net.now (test_of c.args.permit.now) c.at-ratio.result c.args.budget) w.in-Found.is c.in_ok-proof.ensures.exact })
+      | in-Undecided w ↦ subst (IsLastAt c.args.net.now (test_of c.args.permit.now) c.args.budget c.args.ratios.now c.loop-k.k) (sym w.last-is)
+          (record { ratio = c.at-ratio.result; at = c.at-ratio.ensures; is = subst (IsVerdict c.args.net.now (test_of c.args.permit.now) c.at-ratio.result c.args.budget) w.in-Undecided.is c.in_ok-proof.ensures.exact })
+    ])
 
-pub returns-in-loop-k-clause-no_layout : goal.returns-in-loop-k-clause-no_layout
-returns-in-loop-k-clause-no_layout c =
-    refuted-lack c.args.net.now (test_of c.args.permit.now) c.args.ratios.now c.loop-k.refutations.items c.node_count-nodes.ensures.network c.loop-k.invariant.1
+pub returns-in-loop-k-clause-shows : goal.returns-in-loop-k-clause-shows
+returns-in-loop-k-clause-shows c =
+    shown c.args.net.now (test_of c.args.permit.now) c.args.budget c.args.ratios.now c.loop-k.k c.loop-k.refutations.items c.loop-k.invariant c.match-branch-2.last
+    (elim c.match-branch-2.branch [
+      | in-Found w ↦ subst (AreTrueAt c.args.net.now (test_of c.args.permit.now) c.args.ratios.now c.loop-k.k) (sym w.last-is)
+          (c.at-ratio.result, c.at-ratio.ensures, subst (Shows c.args.net.now (test_of c.args.permit.now) c.at-ratio.result) w.in-Found.is c.in_ok-proof.ensures.shows)
+      | in-Undecided w ↦ subst (AreTrueAt c.args.net.now (test_of c.args.permit.now) c.args.ratios.now c.loop-k.k) (sym w.last-is) tt
+    ])
 
 pub returns-clause-exact : goal.returns-clause-exact
 returns-clause-exact c =
-    settled-none c.args.net.now (test_of c.args.permit.now) c.args.budget c.args.ratios.now c.loop-k.k c.loop-k.refutations.items
-    (drop_all c.loop-k.k c.args.ratios.now (omega (arith, c.len-k-end.ensures, c.loop-k-test.false))) c.loop-k.invariant.0
+    settled c.args.net.now (test_of c.args.permit.now) c.args.budget c.args.ratios.now c.loop-k.k c.loop-k.refutations.items c.loop-k.invariant NoneWithin
+    (at-end c.args.net.now (test_of c.args.permit.now) c.args.budget c.args.ratios.now c.loop-k.k c.loop-k.refutations.items c.loop-k.invariant
+    (omega (arith, c.len-k-end.ensures, c.loop-k-test.false)))
 
-pub returns-clause-no_layout : goal.returns-clause-no_layout
-returns-clause-no_layout c =
-    refuted-lack c.args.net.now (test_of c.args.permit.now) c.args.ratios.now c.loop-k.refutations.items c.node_count-nodes.ensures.network c.loop-k.invariant.1
+pub returns-clause-shows : goal.returns-clause-shows
+returns-clause-shows c =
+    shown c.args.net.now (test_of c.args.permit.now) c.args.budget c.args.ratios.now c.loop-k.k c.loop-k.refutations.items c.loop-k.invariant NoneWithin tt

@@ -4,6 +4,7 @@ pub mod Pieces
 pub mod Plans
 pub mod Memory
 pub mod Standard
+pub mod Quiet
 pub mod Slots
 pub mod Shelves
 pub mod Calls

@@ -7,6 +7,10 @@ abbrev pub word_text : Word → List ℕ
 word_text (Text bytes) = bytes.now
 word_text (Number n) = decimal n
 
+-- words, one right behind the other
+abbrev pub joined_text : List Word → List ℕ
+joined_text words = flat_map word_text words
+
 -- words, each behind a space
 abbrev pub further_text : List Word → List ℕ
 further_text words = flat_map (λ word. 32 ∷ word_text word) words

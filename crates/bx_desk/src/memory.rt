@@ -6,13 +6,13 @@
 ghost use Rattle.std.specs.Prelude.{◌≡◌, ◌+◌, ◌≤◌, ◌↔◌, ◌++◌, [], ◌∷◌, ℕ, List, length, vec_len, IsSome, OnOk, OnErr, IsErr, IsErrOf, IsTrue, Some, None, Option, option_map, is_some, nat_lt, ◌||◌, if◌then◌else◌};
 ghost use Rattle.bx_desk.specs.Shelves.{slots_of};
 ghost use Rattle.bx_desk.specs.Plans.{kept_at, kept_of};
-ghost use Rattle.bx_desk.specs.Loads.{LoadsFile};
 ghost use Rattle.bx_desk.specs.Slots.{with_slot, file_slot, place_slot, file_bytes, empty_slot};
 ghost use Rattle.bx_desk.specs.Desk.{IsFile, BeginsFile, IsLoadAnswer, FailsToLoad, Starts, FailsToStart, Writes, WritesFront, Says, SaysFront};
 
 mod shelf;
 
 use self::shelf::{Shelf, Space};
+use crate::held::copy_within;
 use crate::{Desk, Failed, LoadFault};
 use bx_logic::NoMemory;
 use std::alloc::Global;
@@ -316,25 +316,4 @@ fn kept_front(plan: Option<u64>, room: u64, piece: &[u8]) -> &[u8]
         None => size,
     };
     &piece[..kept as usize]
-}
-
-// Copies a file into an empty vector; of one past the limit, only its first limit + 1 bytes.
-fn copy_within(file: &[u8], limit: u64, into: &mut Vec<u8>) -> Result<(), LoadFault>
-    requires { into.old.items ≡ [] }
-    ensures answer { LoadsFile file.now limit result into.new.items }
-{
-    let fits = file.len() as u64 <= limit;
-    let part = if fits {
-        file
-    } else {
-        &file[..limit as usize + 1]
-    };
-    if into.extend_from_slice(part).is_err() {
-        return Err(LoadFault::NoMemory);
-    }
-    if fits {
-        Ok(())
-    } else {
-        Err(LoadFault::TooLong)
-    }
 }

@@ -6,7 +6,7 @@
 ghost use Rattle.std.specs.Prelude.{◌≡◌, ◌∷◌, [], decimal, false};
 ghost use Rattle.bx_desk.specs.Desk.{CanPut};
 ghost use Rattle.bx_desk.specs.Pieces.{target_of};
-ghost use Rattle.bx_desk.specs.Words.{word_text, further_text, line_text};
+ghost use Rattle.bx_desk.specs.Words.{word_text, joined_text, further_text, line_text};
 
 use crate::{Desk, Failed, Piece};
 
@@ -72,6 +72,15 @@ impl<'a, D: Desk> Printer<'a, D> {
         match word {
             Word::Text(bytes) => self.bytes(bytes),
             Word::Number(n) => self.number(n),
+        }
+    }
+
+    /// Puts words out, one right behind the other.
+    pub fn words(&mut self, words: &[Word])
+        ensures { Prints self.old self.new (joined_text words.now) }
+    {
+        for word in words {
+            self.word(*word);
         }
     }
 

@@ -17,4 +17,6 @@ mod pieces;
 #[cfg(test)]
 mod printers;
 #[cfg(test)]
+mod quiet;
+#[cfg(test)]
 mod words;

@@ -3,9 +3,7 @@ use Rattle.std.proofs.Common.{◌≡◌, ℕ, ◌<◌, nat_lt, ◌↔◌, Bool, 
 use Rattle.std.specs.Prelude.{find, if◌then◌else◌}
 use Rattle.std.specs.Option.{option_map_or}
 use Rattle.std.proofs.lemmas.Bool.{true≢false}
-use Rattle.std.proofs.lemmas.Slice.Eq.{bytes_eq-Decides}
 use Rattle.bx_words.specs.declared.opts.Opt.{Opt}
-use Rattle.bx_words.specs.declared.verbs.File.TheVariants.{Net, Cert}
 use Rattle.bx_words.specs.declared.verbs.Verb.{Verb}
 use Rattle.bx_words.specs.declared.verbs.Verb.TheVariants.{Design}
 use Rattle.bx_words.specs.declared.faults.WordFault.{WordFault}
@@ -13,9 +11,11 @@ use Rattle.bx_words.specs.declared.faults.WordFault.TheVariants.{Command as NoVe
 use Rattle.bx_words.specs.Options.{most_work}
 use Rattle.bx_words.specs.Verbs.{Text, line_of, verb_of}
 use Rattle.bx_words.specs.Clap.{has_matches, rows, given_in, named_in}
+use Rattle.bx_words.specs.Names.{is_written_over}
 use Rattle.bx_words.specs.Numbers.{AreTaken, Given, first_no_number, first_out_of_range, is_no_number, is_out_of_range}
-use Rattle.bx_words.specs.Words.{limits_of, budget_of, work_of, or_next, option_fault, is_same, work_fault, own_fault, found_fault, verb_fault, first_fault}
-use Rattle.bx_words.specs.Causes.{IsRead, IsCause}
+use Rattle.bx_words.specs.Words.{limits_of, budget_of, work_of, or_next, option_fault, same_fault, work_fault, own_fault, found_fault, verb_fault, first_fault}
+use Rattle.bx_words.specs.Causes.{HasOneName, IsRead, IsCause}
+use Rattle.bx_words.proofs.Over.{are_files, is_over, one_name, over, same_name}
 use Rattle.bx_words.proofs.Taken.{taken}
 
 one : (a b : WordFault) → Some a ≡ Some b → a ≡ b
@@ -30,25 +30,54 @@ is_cause words a b cause e = subst (λ (f : WordFault). IsCause words f) (one a 
 
 -- ---- one name
 
-one_name : (x y : Option Text) → is_same x y ≡ true → (name : Text) × (x ≡ Some name) × (y ≡ Some name)
-one_name None y e = absurd (true≢false (sym e))
-one_name (Some a) None e = absurd (true≢false (sym e))
-one_name (Some a) (Some b) e = (a, refl, ap Some (sym ((bytes_eq-Decides a b).0 e)))
+distinct : (verb : Verb) → are_files (line_of verb).read (line_of verb).written ≡ true
+distinct Design = refl
 
-same_name : (name : Text) → is_same (Some name) (Some name) ≡ true
-same_name name = (bytes_eq-Decides name name).1 refl
+pub all_taken : (verb : Verb) (given : Given) → option_fault (line_of verb).options given ≡ None → AreTaken given
+all_taken Design given none = taken given none
 
-apart : (x y : Option Text) → is_same x y ≡ false → (name : Text) → x ≡ Some name → y ≡ Some name → ⊥
-apart x y e name p q =
-    let same : is_same x y ≡ true = ap (λ a. is_same a y) p ∙ ap (λ b. is_same (Some name) b) q ∙ same_name name in
-    true≢false (sym same ∙ e)
+abbrev pub over_in : List Text → Verb → Bool
+over_in words verb = is_written_over (rows verb words) (line_of verb).read (line_of verb).written
 
-not_same : (x y : Option Text) → ((name : Text) → x ≡ Some name → y ≡ Some name → ⊥) → is_same x y ≡ false
-not_same x y differ = go (is_same x y) refl
+has_one_name : (words : List Text) (verb : Verb) → IsRead words verb → AreTaken (given_in (rows verb words)) → over_in words verb ≡ true
+    → HasOneName words
+has_one_name words verb read are e =
+    let o = over (rows verb words) (line_of verb).read (line_of verb).written (distinct verb) e in
+    let n = one_name (named_in (rows verb words) o.file) (named_in (rows verb words) o.other) o.one_name in
+    record {
+      verb = verb;
+      is_read = read;
+      taken = are;
+      file = o.file;
+      other = o.other;
+      is_written = o.is_written;
+      is_file = o.is_file;
+      are_two = o.are_two;
+      name = n.0;
+      is_its = n.1;
+      is_others = n.2;
+    }
+
+over_one_name : (words : List Text) (h : HasOneName words) → over_in words h.verb ≡ true
+over_one_name words h =
+    is_over (rows h.verb words) (line_of h.verb).read (line_of h.verb).written h.file h.other h.is_written h.is_file h.are_two
+    (same_name h.name (named_in (rows h.verb words) h.file) (named_in (rows h.verb words) h.other) h.is_its h.is_others)
+
+pub one_verb : (o : Option Verb) (a b : Verb) → o ≡ Some a → o ≡ Some b → a ≡ b
+one_verb o a b e f = let same : Some a ≡ Some b = sym e ∙ f in cc
+
+apart : (words : List Text) (verb : Verb) → IsRead words verb → over_in words verb ≡ false → HasOneName words → ⊥
+apart words verb read e h =
+    let same : h.verb ≡ verb = one_verb (verb_of words) h.verb verb h.is_read.first read.first in
+    true≢false (sym (subst (λ (v : Verb). over_in words v ≡ true) same (over_one_name words h)) ∙ e)
+
+not_over : (words : List Text) (verb : Verb) → IsRead words verb → AreTaken (given_in (rows verb words)) → (HasOneName words → ⊥)
+    → over_in words verb ≡ false
+not_over words verb read are differ = go (over_in words verb) refl
   where
-    go : (b : Bool) → is_same x y ≡ b → is_same x y ≡ false
+    go : (b : Bool) → over_in words verb ≡ b → over_in words verb ≡ false
     go false e = e
-    go true e = let n = one_name x y e in absurd (differ n.0 n.1 n.2)
+    go true e = absurd (differ (has_one_name words verb read are e))
 
 -- ---- the cause of the first fault
 
@@ -70,41 +99,35 @@ number_cause words verb fault read None e h =
 number_cause words verb fault read (Some o) e h =
     is_cause words (Number o) fault (record { verb = verb; is_read = read; first = e }) h
 
-work_cause : (words : List Text) (fault : WordFault) → IsRead words Design → AreTaken (given_in (rows Design words))
-    → is_same (named_in (rows Design words) Net) (named_in (rows Design words) Cert) ≡ false
-    → (t : Bool) → nat_lt most_work (work_of (limits_of (given_in (rows Design words))) (budget_of (given_in (rows Design words)))) ≡ t
-    → (if t then Some (Work (work_of (limits_of (given_in (rows Design words))) (budget_of (given_in (rows Design words))))) else None) ≡ Some fault
-    → IsCause words fault
-work_cause words fault read are two false e h = absurd (none_some fault h)
-work_cause words fault read are two true e h =
-    is_cause words (Work (work_of (limits_of (given_in (rows Design words))) (budget_of (given_in (rows Design words))))) fault (record {
-      is_read = read;
-      taken = are;
-      apart = apart (named_in (rows Design words) Net) (named_in (rows Design words) Cert) two;
-      work = refl;
-      many = ltb-true most_work (work_of (limits_of (given_in (rows Design words))) (budget_of (given_in (rows Design words)))) e;
-    }) h
+own_cause : (words : List Text) (verb : Verb) (fault : WordFault) → IsRead words verb → AreTaken (given_in (rows verb words))
+    → over_in words verb ≡ false → own_fault verb (rows verb words) ≡ Some fault → IsCause words fault
+own_cause words Design fault read are two h = go (nat_lt most_work work) refl h
+  where
+    work : ℕ
+    work = work_of (limits_of (given_in (rows Design words))) (budget_of (given_in (rows Design words)))
 
-same_cause : (words : List Text) (fault : WordFault) → IsRead words Design → AreTaken (given_in (rows Design words))
-    → (t : Bool) → is_same (named_in (rows Design words) Net) (named_in (rows Design words) Cert) ≡ t
-    → or_next (if t then Some Same else None) (work_fault (work_of (limits_of (given_in (rows Design words))) (budget_of (given_in (rows Design words))))) ≡ Some fault
-    → IsCause words fault
-same_cause words fault read are true e h =
-    let n = one_name (named_in (rows Design words) Net) (named_in (rows Design words) Cert) e in
-    is_cause words Same fault (record { is_read = read; taken = are; name = n.0; net = n.1; cert = n.2 }) h
-same_cause words fault read are false e h =
-    work_cause words fault read are e (nat_lt most_work (work_of (limits_of (given_in (rows Design words))) (budget_of (given_in (rows Design words))))) refl h
+    go : (t : Bool) → nat_lt most_work work ≡ t → (if t then Some (Work work) else None) ≡ Some fault → IsCause words fault
+    go false e h = absurd (none_some fault h)
+    go true e h =
+        is_cause words (Work work) fault (record {
+          is_read = read;
+          taken = are;
+          apart = apart words Design read two;
+          work = refl;
+          many = ltb-true most_work work e;
+        }) h
 
-own_cause : (words : List Text) (verb : Verb) (fault : WordFault) → IsRead words verb
-    → option_fault (line_of verb).options (given_in (rows verb words)) ≡ None → own_fault verb (rows verb words) ≡ Some fault → IsCause words fault
-own_cause words Design fault read none h =
-    same_cause words fault read (taken (given_in (rows Design words)) none)
-    (is_same (named_in (rows Design words) Net) (named_in (rows Design words) Cert)) refl h
+same_cause : (words : List Text) (verb : Verb) (fault : WordFault) → IsRead words verb → AreTaken (given_in (rows verb words))
+    → (t : Bool) → over_in words verb ≡ t → or_next (if t then Some Same else None) (own_fault verb (rows verb words)) ≡ Some fault
+    → IsCause words fault
+same_cause words verb fault read are true e h = is_cause words Same fault (has_one_name words verb read are e) h
+same_cause words verb fault read are false e h = own_cause words verb fault read are e h
 
 found_cause : (words : List Text) (verb : Verb) (fault : WordFault) → IsRead words verb
     → (f : Option WordFault) → option_fault (line_of verb).options (given_in (rows verb words)) ≡ f
-    → or_next f (own_fault verb (rows verb words)) ≡ Some fault → IsCause words fault
-found_cause words verb fault read None e h = own_cause words verb fault read e h
+    → or_next f (or_next (same_fault verb (rows verb words)) (own_fault verb (rows verb words))) ≡ Some fault → IsCause words fault
+found_cause words verb fault read None e h =
+    same_cause words verb fault read (all_taken verb (given_in (rows verb words)) e) (over_in words verb) refl h
 found_cause words verb fault read (Some x) e h =
     is_cause words x fault (number_cause words verb x read (first_no_number (line_of verb).options (given_in (rows verb words))) refl e) h
 
@@ -125,9 +148,8 @@ find_never : (p : Opt → Bool) (xs : List Opt) → ((o : Opt) → p o ≡ false
 find_never p [] never = refl
 find_never p (x ∷ xs) never = rw (never x) (find_never p xs never)
 
-none_wrong : (given : Given) → AreTaken given → option_fault (line_of Design).options given ≡ None
-none_wrong given are =
-    let options = (line_of Design).options in
+none_wrong : (options : List Opt) (given : Given) → AreTaken given → option_fault options given ≡ None
+none_wrong options given are =
     ap (λ n. or_next (option_map_or (λ o. Some (Number o)) n None) (option_map_or (λ o. Some (Range o)) (first_out_of_range options given) None))
     (find_never (is_no_number given) options (λ o. (are o).0))
     ∙ ap (λ r. option_map_or (λ o. Some (Range o)) r None) (find_never (is_out_of_range given) options (λ o. (are o).1))
@@ -135,15 +157,18 @@ none_wrong given are =
 named_fault : (words : List Text) (verb : Verb) → verb_of words ≡ Some verb → first_fault words ≡ verb_fault words verb
 named_fault words verb e = ap (λ v. option_map_or (verb_fault words) v (Some NoVerb)) e
 
-read_fault : (words : List Text) (verb : Verb) → IsRead words verb → first_fault words ≡ found_fault verb (rows verb words)
+pub read_fault : (words : List Text) (verb : Verb) → IsRead words verb → first_fault words ≡ found_fault verb (rows verb words)
 read_fault words verb read =
     named_fault words verb read.first ∙ ap (λ (t : Bool). if t then found_fault verb (rows verb words) else Some Usage) read.has
 
-taken_fault : (words : List Text) → IsRead words Design → AreTaken (given_in (rows Design words))
-    → first_fault words ≡ own_fault Design (rows Design words)
-taken_fault words read are =
-    read_fault words Design read
-    ∙ ap (λ f. or_next f (own_fault Design (rows Design words))) (none_wrong (given_in (rows Design words)) are)
+abbrev later_fault : List Text → Verb → Option WordFault
+later_fault words verb = or_next (same_fault verb (rows verb words)) (own_fault verb (rows verb words))
+
+taken_fault : (words : List Text) (verb : Verb) → IsRead words verb → AreTaken (given_in (rows verb words))
+    → first_fault words ≡ later_fault words verb
+taken_fault words verb read are =
+    read_fault words verb read
+    ∙ ap (λ f. or_next f (later_fault words verb)) (none_wrong (line_of verb).options (given_in (rows verb words)) are)
 
 pub cause_fault : (words : List Text) (fault : WordFault) → IsCause words fault → first_fault words ≡ Some fault
 cause_fault words NoVerb h = ap (λ v. option_map_or (verb_fault words) v (Some NoVerb)) h
@@ -153,25 +178,21 @@ cause_fault words (Number o) h =
     read_fault words h.verb h.is_read
     ∙ ap (λ n. or_next (or_next (option_map_or (λ x. Some (Number x)) n None)
     (option_map_or (λ x. Some (Range x)) (first_out_of_range (line_of h.verb).options (given_in (rows h.verb words))) None))
-    (own_fault h.verb (rows h.verb words))) h.first
+    (later_fault words h.verb)) h.first
 cause_fault words (Range o) h =
     read_fault words h.verb h.is_read
     ∙ ap (λ n. or_next (or_next (option_map_or (λ x. Some (Number x)) n None)
     (option_map_or (λ x. Some (Range x)) (first_out_of_range (line_of h.verb).options (given_in (rows h.verb words))) None))
-    (own_fault h.verb (rows h.verb words))) h.numbers
-    ∙ ap (λ r. or_next (option_map_or (λ x. Some (Range x)) r None) (own_fault h.verb (rows h.verb words))) h.first
+    (later_fault words h.verb)) h.numbers
+    ∙ ap (λ r. or_next (option_map_or (λ x. Some (Range x)) r None) (later_fault words h.verb)) h.first
 cause_fault words Same h =
-    let found = rows Design words in
-    let work = work_fault (work_of (limits_of (given_in found)) (budget_of (given_in found))) in
-    taken_fault words h.is_read h.taken
-    ∙ ap (λ x. or_next (if is_same x (named_in found Cert) then Some Same else None) work) h.net
-    ∙ ap (λ y. or_next (if is_same (Some h.name) y then Some Same else None) work) h.cert
-    ∙ ap (λ (t : Bool). or_next (if t then Some Same else None) work) (same_name h.name)
+    taken_fault words h.verb h.is_read h.taken
+    ∙ ap (λ (t : Bool). or_next (if t then Some Same else None) (own_fault h.verb (rows h.verb words))) (over_one_name words h)
 cause_fault words (Work n) h =
     let found = rows Design words in
     let w = work_of (limits_of (given_in found)) (budget_of (given_in found)) in
-    taken_fault words h.is_read h.taken
-    ∙ ap (λ (t : Bool). or_next (if t then Some Same else None) (work_fault w)) (not_same (named_in found Net) (named_in found Cert) h.apart)
+    taken_fault words Design h.is_read h.taken
+    ∙ ap (λ (t : Bool). or_next (if t then Some Same else None) (work_fault w)) (not_over words Design h.is_read h.taken h.apart)
     ∙ ap (λ (t : Bool). if t then Some (Work w) else None) (lt-ltb most_work w (subst (λ (m : ℕ). most_work < m) h.work h.many))
     ∙ ap (λ (m : ℕ). Some (Work m)) (sym h.work)
 

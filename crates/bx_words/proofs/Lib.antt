@@ -3,4 +3,9 @@ pub mod Parses
 pub mod Digits
 pub mod Work
 pub mod Taken
+pub mod Over
+pub mod Walks
+pub mod Asked
 pub mod CauseLemmas
+pub mod Faultless
+pub mod Workers

@@ -1,11 +1,9 @@
--- A built command of `clap` is the one that the line says, and what it finds has a name for each file.
-use Rattle.std.proofs.Common.{◌≡◌, ℕ, suc, ◌<◌, ◌≤◌, true, false, List, [], ◌∷◌, ◌++◌, map, length, refl, sym, ap, subst, ◌∙◌, arith, Option, None, is_some, length-append, IsSome}
-use Rattle.std.specs.List.{All, list_all, slice_index_or}
-use Rattle.std.proofs.lemmas.List.{append-nil, append_assoc, get_or-map, get_or_append_left, length-map}
+-- A built command of `clap` is the one that the line says.
+use Rattle.std.proofs.Common.{◌≡◌, ℕ, suc, true, false, List, [], ◌∷◌, ◌++◌, map, refl, sym, ap, ◌∙◌, arith}
+use Rattle.std.specs.List.{All, list_all}
+use Rattle.std.proofs.lemmas.List.{append-nil, append_assoc}
 use Rattle.clap.specs.Walk.{Rule, rule_of, is_empty}
-use Rattle.clap.specs.Facts.{unwrap_or_range}
-use Rattle.clap.specs.Matches.{found_of, first_value}
-use Rattle.clap.specs.Built.{AddsArg, AddsInTurn, FitsChain, IsParsedFrom, TakesValue}
+use Rattle.clap.specs.Built.{AddsArg, AddsInTurn, FitsChain}
 use Rattle.clap.specs.Simple.{App, HasMatchesOf, is_simple, matches_of, app_of, app_of_fields, new_app, new_shape, on_top}
 use Rattle.clap.specs.Faults.{fault_of, is_simple_and_free}
 use Rattle.clap.specs.Kinds.{Kinds, IsAmong}
@@ -13,27 +11,20 @@ use Rattle.clap.specs.declared.error.kind.ErrorKind.{ErrorKind}
 use Rattle.clap.specs.declared.builder.arg.Arg.{Arg}
 use Rattle.clap.specs.declared.builder.command.Command.{Command}
 use Rattle.clap.specs.declared.builder.command.Command.TheViews.{out-Command as fields_of}
-use Rattle.clap.specs.declared.builder.range.ValueRange.{ValueRange}
 use Rattle.clap.specs.declared.parser.matches.ArgMatches.{ArgMatches}
-use Rattle.clap.proofs.CallerLemmas.{required_in_chain}
 use Rattle.clap.proofs.OnLiterals.{clap_on_literals}
-use Rattle.clap.proofs.WalkLemmas.{both, first_value-rows}
-use Rattle.bx_words.specs.declared.verbs.File.{File}
-use Rattle.bx_words.specs.declared.verbs.File.TheVariants.{Net, Cert}
+use Rattle.clap.proofs.WalkLemmas.{both}
 use Rattle.bx_words.specs.declared.verbs.Verb.{Verb}
 use Rattle.bx_words.specs.declared.verbs.Verb.TheVariants.{Design}
-use Rattle.bx_words.specs.Verbs.{Line, file_name, line_of}
-use Rattle.bx_words.specs.Clap.{app_of_line, file_rule, option_rule, rules_of, rows_in, named_in, has_matches, rows}
+use Rattle.bx_words.specs.Verbs.{Line, line_of}
+use Rattle.bx_words.specs.Clap.{app_of_line, rules_of, rows_in, has_matches, rows}
 use Rattle.bx_words.specs.Built.{IsBuilt}
-use Rattle.bx_words.proofs.Arguments.{all_fit, distinct, distinct_rules, is_ours, whole}
+use Rattle.bx_words.proofs.Arguments.{all_fit, is_ours}
 
 -- ---- each command's line
 
 pub ours : (verb : Verb) → list_all is_ours (rules_of (line_of verb)) ≡ true
 ours Design = refl
-
-pub apart : (verb : Verb) → distinct_rules (rules_of (line_of verb)) ≡ true
-apart Design = refl
 
 simple : (verb : Verb) → is_simple_and_free (app_of_line (line_of verb)) ≡ true
 unfolding clap_on_literals
@@ -72,57 +63,10 @@ built_app line c b own =
     ∙ ap (λ rules. app_with rules) b.rules
   where
     app_with : List Rule → App
-    app_with rules = with_rules (app_of_line (record line { files = []; options = [] })) rules
+    app_with rules = with_rules (app_of_line (record line { read = []; written = []; options = [] })) rules
 
 pub plain_app : (verb : Verb) (c : Command) → IsBuilt (line_of verb) c → is_simple_and_free (app_of c) ≡ true
 plain_app verb c b = ap is_simple_and_free (built_app (line_of verb) c b (ours verb)) ∙ simple verb
-
--- ---- the files
-
-an_arg : (args : List Arg) (k : ℕ) → k < length args → Arg
-an_arg [] k lt = absurd (omega arith)
-an_arg (x ∷ xs) k lt = x
-
-rule_at : (line : Line) (args : List Arg) (k : ℕ) (d : File) (a : Arg) → map rule_of args ≡ rules_of line → k < length line.files
-    → k < length args → rule_of (slice_index_or args k a) ≡ file_rule (slice_index_or line.files k d)
-rule_at line args k d a same lt in_args =
-    let in_files : k < length (map file_rule line.files) = omega (arith, length-map line.files file_rule) in
-    sym (get_or-map rule_of args k a (file_rule d) in_args)
-    ∙ ap (λ rules. slice_index_or rules k (file_rule d)) same
-    ∙ get_or_append_left (map file_rule line.files) (map option_rule line.options) (file_rule d) k in_files
-    ∙ get_or-map file_rule line.files k d (file_rule d) lt
-
-our_file : (file : File) → is_ours (file_rule file) ≡ true
-our_file Net = refl
-our_file Cert = refl
-
-takes_value : (a : Arg) (file : File) → rule_of a ≡ file_rule file → TakesValue a
-takes_value a file same =
-    let range : a.num_vals ≡ None = ap (λ (r : Rule). r.range) same in (
-      ap (λ (r : Rule). r.required) same,
-      ap (λ (r : Rule). r.action) same,
-      whole a (ap is_ours same ∙ our_file file),
-      subst (λ (o : Option ValueRange). 1 ≤ (unwrap_or_range o).start_inclusive) (sym range) (omega arith),
-    )
-
--- a parse that gave matches found a name for each file
-pub files_named : (line : Line) (c : Command) (m : ArgMatches) → IsBuilt line c → IsParsedFrom c m
-    → list_all is_ours (rules_of line) ≡ true → distinct_rules (rules_of line) ≡ true
-    → All (λ file. IsSome (named_in (rows_in m) file)) line.files
-unfolding rows_in
-files_named line c m b parsed own different k d lt =
-    let files = length-map line.files file_rule in
-    let all : length b.args ≡ length (rules_of line) = sym (length-map b.args rule_of) ∙ ap length b.rules in
-    let in_args : k < length b.args = omega (arith, length-append (map file_rule line.files) (map option_rule line.options)) in
-    let a = an_arg b.args k in_args in
-    let same = rule_at line b.args k d a b.rules lt in_args in
-    let file = slice_index_or line.files k d in
-    let id : (slice_index_or b.args k a).id.now ≡ file_name file = ap (λ (r : Rule). r.id) same in
-    let given = required_in_chain b.start c b.args k a m b.chain b.no_args b.no_groups b.local b.negates
-    (all_fit b.args (rules_of line) b.rules own) (distinct b.args (ap distinct_rules b.rules ∙ different)) in_args
-    (takes_value (slice_index_or b.args k a) file same) parsed in
-    let shown = subst (λ (t : List ℕ). is_some (first_value (found_of m) t) ≡ true) id given in
-    subst (λ (o : Option (List ℕ)). is_some o ≡ true) (first_value-rows (found_of m) (file_name file)) shown
 
 -- ---- what `clap` says of the words
 

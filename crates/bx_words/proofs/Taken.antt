@@ -4,7 +4,7 @@ use Rattle.std.specs.Prelude.{find, if◌then◌else◌}
 use Rattle.std.specs.Option.{option_map_or}
 use Rattle.clap.proofs.WalkLemmas.{both}
 use Rattle.bx_words.specs.declared.opts.Opt.{Opt}
-use Rattle.bx_words.specs.declared.opts.Opt.TheVariants.{Area, Width, Height, Budget}
+use Rattle.bx_words.specs.declared.opts.Opt.TheVariants.{Area, Width, Height, Budget, Workers}
 use Rattle.bx_words.specs.declared.verbs.Verb.TheVariants.{Design}
 use Rattle.bx_words.specs.declared.faults.WordFault.{WordFault}
 use Rattle.bx_words.specs.declared.faults.WordFault.TheVariants.{Number, Range}
@@ -31,6 +31,7 @@ all_of_design p none Area = find_none p (line_of Design).options none 0 Area (om
 all_of_design p none Width = find_none p (line_of Design).options none 1 Area (omega arith)
 all_of_design p none Height = find_none p (line_of Design).options none 2 Area (omega arith)
 all_of_design p none Budget = find_none p (line_of Design).options none 3 Area (omega arith)
+all_of_design p none Workers = find_none p (line_of Design).options none 4 Area (omega arith)
 
 no_option : (made : Opt → WordFault) (o : Option Opt) → option_map_or (λ x. Some (made x)) o None ≡ None → o ≡ None
 no_option made None e = refl
@@ -60,12 +61,14 @@ default_least Area area = omega arith
 default_least Width area = omega arith
 default_least Height area = omega arith
 default_least Budget area = omega arith
+default_least Workers area = omega arith
 
 pub default_most : (o : Opt) (area : ℕ) → default_of o area ≤ most_of o
 default_most Area area = omega arith
 default_most Width area = omega arith
 default_most Height area = omega arith
 default_most Budget area = budget_default (nat_le area 132) 100000 50000 (omega arith) (omega arith)
+default_most Workers area = omega arith
 
 pub record IsWithin (o : Opt) (n : ℕ) : Type 0 where
   pub least : least_of o ≤ n

@@ -1,13 +1,11 @@
 -- A command of `clap` that was built of a command's line: a new one without a help flag, to which the arguments
 -- were added in their order.
-use Rattle.std.specs.Prelude.{◌≡◌, true, false, List, [], map}
-use Rattle.clap.specs.Facts.{args_of, groups_of}
+use Rattle.std.specs.Prelude.{◌≡◌, true, List, [], map}
 use Rattle.clap.specs.Built.{AddsArg, AddsInTurn}
 use Rattle.clap.specs.Walk.{rule_of}
 use Rattle.clap.specs.Simple.{app_of, new_shape}
 use Rattle.clap.specs.declared.builder.arg.Arg.{Arg}
 use Rattle.clap.specs.declared.builder.command.Command.{Command}
-use Rattle.clap.specs.declared.builder.command.Command.TheViews.{out-Command as fields_of}
 use Rattle.bx_words.specs.Verbs.{Line}
 use Rattle.bx_words.specs.Clap.{rules_of}
 
@@ -17,7 +15,3 @@ pub record IsBuilt (line : Line) (c : Command) : Type 0 where
   pub chain : AddsInTurn AddsArg start args c
   pub rules : map rule_of args ≡ rules_of line
   pub app : app_of start ≡ record { top = record (new_shape line.name) { disable_help_flag = true }; subs = [] }
-  pub no_args : args_of start ≡ []
-  pub no_groups : groups_of start ≡ []
-  pub local : (fields_of start).has_globals ≡ false
-  pub negates : (fields_of start).subcommand_negates_reqs ≡ false

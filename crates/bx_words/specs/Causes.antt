@@ -1,13 +1,14 @@
 -- When each fault is the first one, by itself.
-use Rattle.std.specs.Prelude.{◌≡◌, ℕ, ◌<◌, true, false, List, Some, None}
+use Rattle.std.specs.Prelude.{◌≡◌, ◌≢◌, ℕ, ◌<◌, true, false, List, Some, None}
+use Rattle.std.specs.List.{Contains}
 use Rattle.bx_words.specs.declared.opts.Opt.{Opt}
-use Rattle.bx_words.specs.declared.verbs.File.TheVariants.{Net, Cert}
+use Rattle.bx_words.specs.declared.verbs.File.{File}
 use Rattle.bx_words.specs.declared.verbs.Verb.{Verb}
 use Rattle.bx_words.specs.declared.verbs.Verb.TheVariants.{Design}
 use Rattle.bx_words.specs.declared.faults.WordFault.{WordFault}
 use Rattle.bx_words.specs.declared.faults.WordFault.TheVariants.{Command as NoVerb, Usage, Number, Range, Same, Work}
 use Rattle.bx_words.specs.Options.{most_work}
-use Rattle.bx_words.specs.Verbs.{Text, line_of, verb_of}
+use Rattle.bx_words.specs.Verbs.{Text, files_of, line_of, verb_of}
 use Rattle.bx_words.specs.Clap.{has_matches, rows, given_in, named_in}
 use Rattle.bx_words.specs.Numbers.{AreTaken, first_no_number, first_out_of_range}
 use Rattle.bx_words.specs.Words.{limits_of, budget_of, work_of}
@@ -35,19 +36,26 @@ pub record HasOutOfRange (words : List Text) (o : Opt) : Type 0 where
   pub numbers : first_no_number (line_of verb).options (given_in (rows verb words)) ≡ None
   pub first : first_out_of_range (line_of verb).options (given_in (rows verb words)) ≡ Some o
 
--- `design`, with options that are numbers in their ranges, and with one name for both files
+-- a command whose options are numbers in their ranges, and which has one name for a file that it writes and for
+-- another of its files
 pub record HasOneName (words : List Text) : Type 0 where
-  pub is_read : IsRead words Design
-  pub taken : AreTaken (given_in (rows Design words))
+  pub verb : Verb
+  pub is_read : IsRead words verb
+  pub taken : AreTaken (given_in (rows verb words))
+  pub file : File
+  pub other : File
+  pub is_written : Contains (line_of verb).written file
+  pub is_file : Contains (files_of (line_of verb)) other
+  pub are_two : file ≢ other
   pub name : Text
-  pub net : named_in (rows Design words) Net ≡ Some name
-  pub cert : named_in (rows Design words) Cert ≡ Some name
+  pub is_its : named_in (rows verb words) file ≡ Some name
+  pub is_others : named_in (rows verb words) other ≡ Some name
 
--- the same with two names, and with so much work, too much for a search
+-- `design`, where no file is written over another, and with so much work, too much for a search
 pub record HasMuchWork (words : List Text) (n : ℕ) : Type 0 where
   pub is_read : IsRead words Design
   pub taken : AreTaken (given_in (rows Design words))
-  pub apart : (name : Text) → named_in (rows Design words) Net ≡ Some name → named_in (rows Design words) Cert ≡ Some name → ⊥
+  pub apart : HasOneName words → ⊥
   pub work : n ≡ work_of (limits_of (given_in (rows Design words))) (budget_of (given_in (rows Design words)))
   pub many : most_work < n
 

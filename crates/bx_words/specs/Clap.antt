@@ -12,7 +12,7 @@ use Rattle.bx_words.specs.declared.opts.Opt.{Opt}
 use Rattle.bx_words.specs.declared.verbs.File.{File}
 use Rattle.bx_words.specs.declared.verbs.Verb.{Verb}
 use Rattle.bx_words.specs.Options.{option_name}
-use Rattle.bx_words.specs.Verbs.{Text, Line, file_name, line_of}
+use Rattle.bx_words.specs.Verbs.{Text, Line, file_name, files_of, line_of}
 
 abbrev pub file_rule : File → Rule
 file_rule file = record (new_rule (file_name file)) { required = true; action = Some Set }
@@ -21,7 +21,7 @@ abbrev pub option_rule : Opt → Rule
 option_rule option = record (new_rule (option_name option)) { long = Some (option_name option); action = Some Set }
 
 abbrev pub rules_of : Line → List Rule
-rules_of line = map file_rule line.files ++ map option_rule line.options
+rules_of line = map file_rule (files_of line) ++ map option_rule line.options
 
 abbrev pub app_of_line : Line → App
 app_of_line line = record {
@@ -52,4 +52,4 @@ rows_in matches = rows_of (found_of matches)
 pub record HasFound (verb : Verb) (words : List Text) (matches : ArgMatches) : Type 0 where
   pub taken : has_matches verb words ≡ true
   pub rows_are : rows_in matches ≡ rows verb words
-  pub named : All (λ file. IsSome (named_in (rows_in matches) file)) (line_of verb).files
+  pub named : All (λ file. IsSome (named_in (rows_in matches) file)) (files_of (line_of verb))

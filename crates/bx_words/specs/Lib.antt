@@ -1,8 +1,10 @@
 pub mod Options
 pub mod Verbs
 pub mod Clap
+pub mod Names
 pub mod Numbers
 pub mod Words
 pub mod Built
 pub mod Refusals
 pub mod Causes
+pub mod Workers

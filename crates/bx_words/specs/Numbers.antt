@@ -40,6 +40,9 @@ first_no_number options given = find (is_no_number given) options
 abbrev pub first_out_of_range : List Opt → Given → Option Opt
 first_out_of_range options given = find (is_out_of_range given) options
 
--- each text that is given is a number that its option takes
+-- the text that is given for the option, if any, is a number that it takes
+abbrev pub IsTaken : Given → Opt → Type 0
+IsTaken given option = (is_no_number given option ≡ false) × (is_out_of_range given option ≡ false)
+
 abbrev pub AreTaken : Given → Type 0
-AreTaken given = (option : Opt) → (is_no_number given option ≡ false) × (is_out_of_range given option ≡ false)
+AreTaken given = (option : Opt) → IsTaken given option

@@ -1,10 +1,10 @@
 -- The commands: the word of each, the names of its files, and its options.
-use Rattle.std.specs.Prelude.{ℕ, List, [], ◌∷◌, map, find, codes, Option, None, String, string_bytes}
+use Rattle.std.specs.Prelude.{ℕ, List, [], ◌∷◌, ◌++◌, map, find, codes, Option, None, String, string_bytes}
 use Rattle.std.specs.Str.{bytes_eq}
 use Rattle.bx_words.specs.declared.opts.Opt.{Opt}
-use Rattle.bx_words.specs.declared.opts.Opt.TheVariants.{Area, Width, Height, Budget}
+use Rattle.bx_words.specs.declared.opts.Opt.TheVariants.{Area, Width, Height, Budget, Workers}
 use Rattle.bx_words.specs.declared.verbs.File.{File}
-use Rattle.bx_words.specs.declared.verbs.File.TheVariants.{Net, Cert}
+use Rattle.bx_words.specs.declared.verbs.File.TheVariants.{Net, Lib, Design as DesignFile, Cert}
 use Rattle.bx_words.specs.declared.verbs.Verb.{Verb}
 use Rattle.bx_words.specs.declared.verbs.Verb.TheVariants.{Design}
 
@@ -17,19 +17,28 @@ texts words = map string_bytes words
 
 abbrev pub file_name : File → Text
 file_name Net = codes "NET"
+file_name Lib = codes "LIB"
+file_name DesignFile = codes "DESIGN"
 file_name Cert = codes "CERT"
 
--- a command's word, its files in their order, and its options in the order in which faults are told of
+-- a command's word, the files that it reads, those that it writes, and its options in the order in which faults
+-- are told of
 pub record Line : Type 0 where
   pub name : Text
-  pub files : List File
+  pub read : List File
+  pub written : List File
   pub options : List Opt
+
+-- the files in the order of the words
+abbrev pub files_of : Line → List File
+files_of line = line.read ++ line.written
 
 abbrev pub line_of : Verb → Line
 line_of Design = record {
   name = codes "design";
-  files = Net ∷ Cert ∷ [];
-  options = Area ∷ Width ∷ Height ∷ Budget ∷ [];
+  read = Net ∷ Lib ∷ [];
+  written = DesignFile ∷ Cert ∷ [];
+  options = Area ∷ Width ∷ Height ∷ Budget ∷ Workers ∷ [];
 }
 
 abbrev pub verbs : List Verb

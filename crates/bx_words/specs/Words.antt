@@ -1,13 +1,12 @@
 -- What the words of the command line say: a command, or the first thing that is wrong with them.
-use Rattle.std.specs.Prelude.{◌≡◌, ℕ, ◌*◌, Bool, false, List, length, nat_lt, Option, Some, None, Result, Ok, Err, if◌then◌else◌}
+use Rattle.std.specs.Prelude.{◌≡◌, ℕ, ◌*◌, List, length, nat_lt, Option, Some, None, Result, Ok, Err, if◌then◌else◌}
 use Rattle.std.specs.Option.{option_map_or}
-use Rattle.std.specs.Str.{bytes_eq}
 use Rattle.clap.specs.Walk.{Row}
 use Rattle.bx_grid.specs.declared.ratio.Limits.{Limits}
 use Rattle.bx_grid.specs.Orders.{order}
 use Rattle.bx_words.specs.declared.opts.Opt.{Opt}
-use Rattle.bx_words.specs.declared.opts.Opt.TheVariants.{Area, Width, Height, Budget}
-use Rattle.bx_words.specs.declared.verbs.File.TheVariants.{Net, Cert}
+use Rattle.bx_words.specs.declared.opts.Opt.TheVariants.{Area, Width, Height, Budget, Workers}
+use Rattle.bx_words.specs.declared.verbs.File.TheVariants.{Net, Lib, Design as DesignFile, Cert}
 use Rattle.bx_words.specs.declared.verbs.Verb.{Verb}
 use Rattle.bx_words.specs.declared.verbs.Verb.TheVariants.{Design}
 use Rattle.bx_words.specs.declared.faults.WordFault.{WordFault}
@@ -20,6 +19,7 @@ use Rattle.bx_words.specs.declared.commands.Command.TheVariants.{Design as Desig
 use Rattle.bx_words.specs.Options.{default_of, most_work}
 use Rattle.bx_words.specs.Verbs.{Text, line_of, verb_of}
 use Rattle.bx_words.specs.Clap.{has_matches, rows, given_in, named_in}
+use Rattle.bx_words.specs.Names.{is_written_over}
 use Rattle.bx_words.specs.Numbers.{Given, number_of, first_no_number, first_out_of_range}
 
 -- ---- options with their defaults
@@ -41,6 +41,9 @@ limits_of given = record {
 abbrev pub budget_of : Given → ℕ
 budget_of given = value_at (area_of given) given Budget
 
+abbrev pub workers_of : Given → ℕ
+workers_of given = value_at (area_of given) given Workers
+
 -- the budget times the number of ratios
 abbrev pub work_of : Limits → ℕ → ℕ
 work_of limits budget = budget * length (order limits)
@@ -57,21 +60,19 @@ option_fault options given = or_next
     (option_map_or (λ option. Some (Number option)) (first_no_number options given) None)
     (option_map_or (λ option. Some (Range option)) (first_out_of_range options given) None)
 
--- two files have one name
-abbrev pub is_same : Option Text → Option Text → Bool
-is_same one two = option_map_or (λ a. option_map_or (bytes_eq a) two false) one false
+abbrev pub same_fault : Verb → List Row → Option WordFault
+same_fault verb found = if is_written_over found (line_of verb).read (line_of verb).written then Some Same else None
 
 abbrev pub work_fault : ℕ → Option WordFault
 work_fault work = if nat_lt most_work work then Some (Work work) else None
 
--- what is wrong with a command where all its options are numbers in their ranges
+-- what is wrong with a command whose options are numbers in their ranges and whose files are apart
 abbrev pub own_fault : Verb → List Row → Option WordFault
-own_fault Design found = or_next
-    (if is_same (named_in found Net) (named_in found Cert) then Some Same else None)
-    (work_fault (work_of (limits_of (given_in found)) (budget_of (given_in found))))
+own_fault Design found = work_fault (work_of (limits_of (given_in found)) (budget_of (given_in found)))
 
 abbrev pub found_fault : Verb → List Row → Option WordFault
-found_fault verb found = or_next (option_fault (line_of verb).options (given_in found)) (own_fault verb found)
+found_fault verb found =
+    or_next (option_fault (line_of verb).options (given_in found)) (or_next (same_fault verb found) (own_fault verb found))
 
 abbrev pub verb_fault : List Text → Verb → Option WordFault
 verb_fault words verb = if has_matches verb words then found_fault verb (rows verb words) else Some Usage
@@ -85,9 +86,12 @@ first_fault words = option_map_or (verb_fault words) (verb_of words) (Some NoVer
 -- `design`, with what is found in its words
 pub record IsDesign (found : List Row) (d : DesignCommand) : Type 0 where
   pub net : named_in found Net ≡ Some d.net.now
+  pub lib : named_in found Lib ≡ Some d.lib.now
+  pub design : named_in found DesignFile ≡ Some d.design.now
   pub cert : named_in found Cert ≡ Some d.cert.now
   pub limits : d.limits ≡ limits_of (given_in found)
   pub budget : d.budget ≡ budget_of (given_in found)
+  pub workers : d.workers ≡ workers_of (given_in found)
 
 -- a command, with what is found in its words
 abbrev pub IsCommandOf : Verb → List Row → Command → Type 0

@@ -1,7 +1,8 @@
 //! The commands with what the words say of them.
-ghost use Rattle.std.specs.Prelude.{◌≤◌, ◌≢◌, ◌*◌, length};
+ghost use Rattle.std.specs.Prelude.{◌≤◌, ◌*◌, ◌∷◌, [], length};
 ghost use Rattle.bx_grid.specs.Orders.{AreLimits, order};
-ghost use Rattle.bx_words.specs.Options.{most_work};
+ghost use Rattle.bx_words.specs.Options.{most_work, most_workers};
+ghost use Rattle.bx_words.specs.Names.{AreApart};
 
 use bx_grid::Limits;
 
@@ -12,19 +13,27 @@ pub enum Command<'w> {
     Design(DesignCommand<'w>),
 }
 
-/// The words `design NET CERT`, with the options as they are given or by default. The two names are apart, and
-/// the work is small enough for a search.
+/// The words `design NET LIB DESIGN CERT`, with the options as they are given or by default. No file is written
+/// over another, and the work is small enough for a search.
 #[derive(Clone, Copy)]
 pub struct DesignCommand<'w> {
     /// The file of the module.
     pub net: &'w str,
+    /// The file of the library.
+    pub lib: &'w str,
+    /// The file that the design is written to.
+    pub design: &'w str,
     /// The file that the certificate is written to.
     pub cert: &'w str,
     /// The largest ratios that are tried.
     pub limits: Limits,
     /// How much work may be done for one ratio.
     pub budget: u64,
+    /// How many workers share the ratios, from 1 to [`MOST_WORKERS`](crate::MOST_WORKERS).
+    pub workers: u32,
     pub ghost limits_are: { AreLimits limits },
-    pub ghost apart: { net.now ≢ cert.now },
+    pub ghost apart: { AreApart (net.now ∷ lib.now ∷ []) (design.now ∷ cert.now ∷ []) },
     pub ghost work: { budget * length (order limits) ≤ most_work },
+    pub ghost some_workers: { 1 ≤ workers },
+    pub ghost few_workers: { workers ≤ most_workers },
 }

@@ -1,8 +1,10 @@
 //! The words of `design`, where all its options are numbers in their ranges.
-ghost use Rattle.std.specs.Prelude.{◌≡◌, ◌≤◌, None, Some, IfOk, IfErr, OnOk, IsSome};
+ghost use Rattle.std.specs.Prelude.{◌≡◌, ◌≤◌, false, None, Some, IfOk, IfErr, OnOk, IsSome, All};
 ghost use Rattle.bx_grid.specs.Orders.{AreLimits};
 ghost use Rattle.bx_words.specs.Clap.{given_in, named_in, rows_in};
 ghost use Rattle.bx_words.specs.Numbers.{AreTaken};
+ghost use Rattle.bx_words.specs.Verbs.{files_of, line_of};
+ghost use Rattle.bx_words.specs.Names.{is_written_over};
 ghost use Rattle.bx_words.specs.Words.{limits_of, budget_of, work_of as work_for, own_fault, IsDesign};
 
 use crate::commands::DesignCommand;
@@ -15,33 +17,38 @@ use crate::verbs::{File, Verb};
 use bx_grid::{Limits, Ratios};
 use clap::ArgMatches;
 
-// The command, or what is wrong with it: the certificate isn't written over the module, and a search has an end
-// in time.
+// The command, or what is wrong with it: a search has an end in time.
 pub(crate) fn read_design<'w>(matches: &ArgMatches<'w>) -> Result<DesignCommand<'w>, WordFault>
-    requires net { IsSome (named_in (rows_in matches.now) File.Net) }
-    requires cert { IsSome (named_in (rows_in matches.now) File.Cert) }
+    requires named { All (λ file. IsSome (named_in (rows_in matches.now) file))
+        (files_of (line_of Verb.Design)) }
     requires numbers { AreTaken (given_in (rows_in matches.now)) }
+    requires apart { is_written_over (rows_in matches.now)
+        (line_of Verb.Design).read (line_of Verb.Design).written ≡ false }
     ensures sound { OnOk result (own_fault Verb.Design (rows_in matches.now) ≡ None) }
     ensures design { IfOk result (IsDesign (rows_in matches.now)) }
     ensures fault { IfErr result
         (λ fault. own_fault Verb.Design (rows_in matches.now) ≡ Some fault) }
 {
     let net = named(matches, File::Net).unwrap();
+    let lib = named(matches, File::Lib).unwrap();
+    let design = named(matches, File::Design).unwrap();
     let cert = named(matches, File::Cert).unwrap();
-    if net == cert {
-        return Err(WordFault::Same);
-    }
     let limits = limits(matches);
-    let budget = value_at(u64::from(limits.area), matches, Opt::Budget);
+    let area = u64::from(limits.area);
+    let budget = value_at(area, matches, Opt::Budget);
+    let workers = value_at(area, matches, Opt::Workers) as u32;
     let work = work_of(limits, budget);
     if work > MOST_WORK {
         return Err(WordFault::Work(work));
     }
     Ok(DesignCommand {
         net,
+        lib,
+        design,
         cert,
         limits,
         budget,
+        workers,
     })
 }
 

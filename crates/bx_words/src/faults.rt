@@ -14,7 +14,7 @@ pub enum WordFault {
     Number(Opt),
     /// The first option whose number is out of its range, where all are numbers.
     Range(Opt),
-    /// A file that is to be written is another file of these words.
+    /// A file that is to be written has the name of another file of these words.
     Same,
     /// The budget times the number of ratios is this, and more than a search may be asked for.
     Work(u64),

@@ -9,6 +9,7 @@ mod design;
 mod faults;
 pub mod laws;
 mod limits;
+mod names;
 mod numbers;
 mod opts;
 mod parse;
@@ -17,6 +18,6 @@ mod verbs;
 
 pub use commands::{Command, DesignCommand};
 pub use faults::{NoCommand, WordFault};
-pub use limits::{MOST_BUDGET, MOST_WORK};
+pub use limits::{MOST_BUDGET, MOST_WORK, MOST_WORKERS};
 pub use opts::Opt;
 pub use read::read_words;

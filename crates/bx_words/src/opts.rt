@@ -2,7 +2,7 @@
 //! given. This is their one table, and a command that comes to have a new option adds a line to each part.
 ghost use Rattle.std.specs.Prelude.{◌≡◌};
 
-use crate::limits::MOST_BUDGET;
+use crate::limits::{MOST_BUDGET, MOST_WORKERS};
 use bx_grid::MOST_LIMIT;
 
 /// A number that words may give. Where a command has several, they are told of in this order.
@@ -16,6 +16,8 @@ pub enum Opt {
     Height,
     /// How much work may be done for one ratio.
     Budget,
+    /// How many workers share the ratios.
+    Workers,
 }
 
 impl Opt {
@@ -30,6 +32,7 @@ impl Opt {
             Opt::Width => "width",
             Opt::Height => "height",
             Opt::Budget => "budget",
+            Opt::Workers => "workers",
         }
     }
 
@@ -38,7 +41,7 @@ impl Opt {
         ensures { result ≡ least_of self }
     {
         match self {
-            Opt::Area | Opt::Width | Opt::Height => 1,
+            Opt::Area | Opt::Width | Opt::Height | Opt::Workers => 1,
             Opt::Budget => 0,
         }
     }
@@ -50,6 +53,7 @@ impl Opt {
         match self {
             Opt::Area | Opt::Width | Opt::Height => u64::from(MOST_LIMIT),
             Opt::Budget => MOST_BUDGET,
+            Opt::Workers => u64::from(MOST_WORKERS),
         }
     }
 
@@ -61,6 +65,7 @@ impl Opt {
             Opt::Area => 100,
             Opt::Width | Opt::Height => u64::from(MOST_LIMIT),
             Opt::Budget => { if area <= 132 { 100_000 } else { 50_000 } }
+            Opt::Workers => 4,
         }
     }
 }

@@ -4,7 +4,7 @@ ghost use Rattle.std.specs.Prelude.{◌≡◌, ◌⊎◌, ◌++◌, ◌∷◌, [
 ghost use Rattle.clap.specs.Walk.{rule_of};
 ghost use Rattle.clap.specs.Values.{kind_of};
 ghost use Rattle.clap.specs.declared.error.kind.ErrorKind.TheVariants.{OutOfMemory};
-ghost use Rattle.bx_words.specs.Verbs.{texts, line_of};
+ghost use Rattle.bx_words.specs.Verbs.{texts, files_of, line_of};
 ghost use Rattle.bx_words.specs.Clap.{file_rule, option_rule, rules_of, has_matches, given_in, named_in, rows_in, HasFound};
 ghost use Rattle.bx_words.specs.Built.{IsBuilt};
 ghost use Rattle.bx_words.specs.Refusals.{IsRefusal};
@@ -60,14 +60,25 @@ fn command_of<'w>(alloc: Global, verb: Verb) -> Result<clap::Command<'w>, AllocE
 fn arguments<'w>(alloc: Global, verb: Verb) -> Result<Vec<Arg<'w>>, AllocError>
     ensures { IfOk result (λ args. map rule_of args.items ≡ rules_of (line_of verb)) }
 {
-    let mut args = file_arguments(alloc, verb.files())?;
+    let mut args = file_arguments(alloc, verb)?;
     for option in verb.options() {
         args.push(option_argument(alloc, *option))?;
     }
     Ok(args)
 }
 
-fn file_arguments<'w>(alloc: Global, files: &[File]) -> Result<Vec<Arg<'w>>, AllocError>
+fn file_arguments<'w>(alloc: Global, verb: Verb) -> Result<Vec<Arg<'w>>, AllocError>
+    ensures { IfOk result
+        (λ args. map rule_of args.items ≡ map file_rule (files_of (line_of verb))) }
+{
+    let mut args = arguments_of(alloc, verb.read())?;
+    for file in verb.written() {
+        args.push(file_argument(alloc, *file))?;
+    }
+    Ok(args)
+}
+
+fn arguments_of<'w>(alloc: Global, files: &[File]) -> Result<Vec<Arg<'w>>, AllocError>
     ensures { IfOk result (λ args. map rule_of args.items ≡ map file_rule files.now) }
 {
     let mut args = Vec::new(alloc);

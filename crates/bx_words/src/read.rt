@@ -1,13 +1,14 @@
 //! The one call: from the words to the command that they say, or to the first thing that is wrong with them.
 ghost use Rattle.std.specs.Prelude.{◌≡◌, ◌≢◌, None, Some, Err, IfOk, IfErr, OnOk, IsOk, IsSome, All};
 ghost use Rattle.bx_words.specs.declared.faults.WordFault.{WordFault as Wrong};
-ghost use Rattle.bx_words.specs.Verbs.{texts, line_of};
+ghost use Rattle.bx_words.specs.Verbs.{texts, files_of, line_of};
 ghost use Rattle.bx_words.specs.Clap.{named_in, rows_in};
 ghost use Rattle.bx_words.specs.Words.{first_fault, found_fault, IsCommand, IsCommandOf, IsAnswer};
 
 use crate::commands::Command;
 use crate::design::read_design;
 use crate::faults::{NoCommand, WordFault};
+use crate::names::writes_over;
 use crate::numbers::option_fault;
 use crate::parse::find_matches;
 use crate::verbs::{Verb, find_verb};
@@ -52,13 +53,17 @@ fn answer<'w>(alloc: Global, words: &'w [String]) -> Result<Command<'w>, NoComma
 
 // The command of what was found in its words, or what is first wrong with it.
 fn command<'w>(verb: Verb, matches: &ArgMatches<'w>) -> Result<Command<'w>, WordFault>
-    requires { All (λ file. IsSome (named_in (rows_in matches.now) file)) (line_of verb).files }
+    requires { All (λ file. IsSome (named_in (rows_in matches.now) file))
+        (files_of (line_of verb)) }
     ensures sound { OnOk result (found_fault verb (rows_in matches.now) ≡ None) }
     ensures command { IfOk result (IsCommandOf verb (rows_in matches.now)) }
     ensures fault { IfErr result (λ fault. found_fault verb (rows_in matches.now) ≡ Some fault) }
 {
     if let Some(fault) = option_fault(verb.options(), matches) {
         return Err(fault);
+    }
+    if writes_over(matches, verb.read(), verb.written()) {
+        return Err(WordFault::Same);
     }
     match verb {
         Verb::Design => match read_design(matches) {

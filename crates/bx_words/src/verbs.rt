@@ -8,9 +8,13 @@ use crate::opts::Opt;
 /// A file that a command's words name.
 #[derive(Clone, Copy)]
 pub enum File {
-    /// The module, which is read.
+    /// The module.
     Net,
-    /// The certificate, which is written.
+    /// The library of forms.
+    Lib,
+    /// The design: the dots of the layout that is found.
+    Design,
+    /// The certificate.
     Cert,
 }
 
@@ -21,6 +25,8 @@ impl File {
     {
         match self {
             File::Net => "NET",
+            File::Lib => "LIB",
+            File::Design => "DESIGN",
             File::Cert => "CERT",
         }
     }
@@ -33,9 +39,17 @@ pub enum Verb {
     Design,
 }
 
-static DESIGN_FILES: [File; 2] = [File::Net, File::Cert];
+static DESIGN_READ: [File; 2] = [File::Net, File::Lib];
 
-static DESIGN_OPTIONS: [Opt; 4] = [Opt::Area, Opt::Width, Opt::Height, Opt::Budget];
+static DESIGN_WRITTEN: [File; 2] = [File::Design, File::Cert];
+
+static DESIGN_OPTIONS: [Opt; 5] = [
+    Opt::Area,
+    Opt::Width,
+    Opt::Height,
+    Opt::Budget,
+    Opt::Workers,
+];
 
 impl Verb {
     // The word.
@@ -47,12 +61,21 @@ impl Verb {
         }
     }
 
-    // The files, in the order of the words.
-    pub(crate) fn files(self) -> &'static [File]
-        ensures { result.now ≡ (line_of self).files }
+    // The files that are read, in the order of the words.
+    pub(crate) fn read(self) -> &'static [File]
+        ensures { result.now ≡ (line_of self).read }
     {
         match self {
-            Verb::Design => DESIGN_FILES.as_slice(),
+            Verb::Design => DESIGN_READ.as_slice(),
+        }
+    }
+
+    // The files that are written. They stand behind those that are read.
+    pub(crate) fn written(self) -> &'static [File]
+        ensures { result.now ≡ (line_of self).written }
+    {
+        match self {
+            Verb::Design => DESIGN_WRITTEN.as_slice(),
         }
     }
 

@@ -14,8 +14,4 @@ returns c =
       chain = chain;
       rules = c.in_ok-args.ensures;
       app = helpless c.new.result c.disable_help_flag.result _ h (new.app ∙ ap new_app c.name-name.ensures);
-      no_args = ap (λ f. f.args.items) h ∙ new.empty.0;
-      no_groups = ap (λ f. f.groups.items) h ∙ new.empty.1;
-      local = ap (λ f. f.has_globals) h ∙ new.local;
-      negates = ap (λ f. f.subcommand_negates_reqs) h ∙ new.negates;
     }) c.args-2.ensures

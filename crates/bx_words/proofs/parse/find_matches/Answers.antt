@@ -1,11 +1,13 @@
-use Rattle.std.proofs.Common.{refl, sym, subst, inl, inr}
+use Rattle.std.proofs.Common.{refl, sym, subst, inl, inr, IsSome}
+use Rattle.std.specs.List.{All}
 use Rattle.clap.specs.Simple.{app_of}
 use Rattle.clap.specs.Values.{kind_of}
 use Rattle.bx_words.specs.declared.faults.NoCommand.{NoCommand}
-use Rattle.bx_words.specs.Verbs.{line_of, texts}
-use Rattle.bx_words.specs.Clap.{has_matches}
+use Rattle.bx_words.specs.Verbs.{files_of, line_of, texts}
+use Rattle.bx_words.specs.Clap.{has_matches, named_in}
 use Rattle.bx_words.specs.Refusals.{IsRefusal}
-use Rattle.bx_words.proofs.Parses.{apart, built_app, files_named, ours, plain_app, refused, rows_found, taken}
+use Rattle.bx_words.proofs.Parses.{built_app, ours, plain_app, refused, rows_found, taken}
+use Rattle.bx_words.proofs.Walks.{named}
 use Rattle.bx_words.proofs.parse.find_matches.Goals as goal
 
 pub returns-in-Ok-clause-found : goal.returns-in-Ok-clause-found
@@ -14,10 +16,12 @@ returns-in-Ok-clause-found c =
     let words = texts c.args.words.now in
     let command = c.in_ok-command.command in
     let app = built_app (line_of verb) command c.in_ok-command.ensures (ours verb) in
+    let has = taken verb words (app_of command) app (c.in-Ok.ensures.kinds (plain_app verb command c.in_ok-command.ensures)) in
+    let same = rows_found verb words (app_of command) c.in-Ok.matches app c.in-Ok.ensures.matches in
     record {
-      taken = taken verb words (app_of command) app (c.in-Ok.ensures.kinds (plain_app verb command c.in_ok-command.ensures));
-      rows_are = rows_found verb words (app_of command) c.in-Ok.matches app c.in-Ok.ensures.matches;
-      named = files_named (line_of verb) command c.in-Ok.matches c.in_ok-command.ensures c.in-Ok.ensures.parsed (ours verb) (apart verb);
+      taken = has;
+      rows_are = same;
+      named = subst (λ found. All (λ file. IsSome (named_in found file)) (files_of (line_of verb))) (sym same) (named verb words has);
     }
 
 pub returns-in-Err-clause-none : goal.returns-in-Err-clause-none

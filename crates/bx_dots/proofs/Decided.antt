@@ -2,29 +2,29 @@
 use Rattle.std.proofs.Common.{◌≡◌, ◌⊎◌, ◌↔◌, ℕ, zero, suc, ◌+◌, ◌-◌, ◌/◌, ◌<◌, ◌≤◌, leb, ltb, leb-true, le-leb, ltb-true, lt-ltb, Bool, true, List, [], ◌∷◌, length, get_or, map, filter, Option, Some, None, Result, Ok, Err, inl, inr, refl, sym, ap, ◌∙◌, subst, arith}
 use Rattle.std.specs.Prelude.{◌&&◌, nat_le, nat_lt, All, Contains}
 use Rattle.std.specs.List.{range_with_len}
-use Rattle.std.proofs.lemmas.Bool.{cases_lt, cases_eq, and_parts}
+use Rattle.std.proofs.lemmas.Bool.{cases_lt, and_parts}
 use Rattle.std.proofs.lemmas.List.Elements.{filter_passes}
 use Rattle.std.proofs.lemmas.List.Kept.{AllPairs-filter}
 use Rattle.std.proofs.lemmas.List.FromFn.{length-map-range_with_len, get_or-map-range_with_len}
 use Rattle.bx_logic.proofs.Members.{Contains-from_member, Member-from_contains, Member-filter, Member-filter_cases}
 use Rattle.bx_grid.specs.declared.ratio.Ratio.{Ratio}
-use Rattle.bx_grid.specs.Tiles.{tile_count, IsGrid, IsTile, y_of}
+use Rattle.bx_grid.specs.Tiles.{tile_count, IsGrid, y_of}
 use Rattle.bx_grid.proofs.Decided.{Decided, both, same, less, find}
 use Rattle.bx_layout.specs.Grids.{FormGrid}
 use Rattle.bx_library.specs.declared.dot.Dot.{Dot}
 use Rattle.bx_library.specs.declared.group.Group.{Group}
-use Rattle.bx_library.specs.declared.group.Group.TheVariants.{Inputs, Outputs, Others}
 use Rattle.bx_library.specs.Dots.{IsBefore, IsAscending}
 use Rattle.bx_library.specs.Groups.{group_of}
 use Rattle.bx_library.specs.Tiles.{Tiles, IsLibrary, form_dots, IsOffered}
+use Rattle.bx_library.proofs.Deciding.{same-group, dots-equal}
 use Rattle.bx_dots.specs.declared.fault.CutFault.{CutFault}
 use Rattle.bx_dots.specs.declared.fault.CutFault.TheVariants.{StrayDot, StrangeTile}
 use Rattle.bx_dots.specs.Cuts.{group_of_row, AreOwn, ReadsAs, IsStrange, NoneStray, CutsTo}
 use Rattle.bx_dots.specs.Places.{left, top, shift, IsStray}
 use Rattle.bx_dots.specs.Reading.{moved_back, is_among, IsFormWith}
 use Rattle.bx_dots.proofs.Firsts.{NoneStrayTo, none_stray_more, none_stray_all, first_stray}
-use Rattle.bx_dots.proofs.Geometry.{sized, stray_below, stray_before, stray_behind, in_tile, same_dot}
-use Rattle.bx_dots.proofs.Owns.{Stands, owns_are, owns_ascend, reads_empty, reads_form, reads_none}
+use Rattle.bx_dots.proofs.Geometry.{sized, stray_below, stray_before, stray_behind, in_tile}
+use Rattle.bx_dots.proofs.Owns.{owns_are, owns_ascend, reads_empty, reads_form, reads_none}
 
 -- ---- stray dots
 
@@ -57,23 +57,6 @@ strays lib r dots e kept grid up (suc n) high =
     ]
 
 -- ---- what a tile is read as
-
-same-group : (a b : Group) → Decided (a ≡ b)
-same-group Inputs Inputs = inl refl
-same-group Inputs Outputs = inr (λ e. cc)
-same-group Inputs Others = inr (λ e. cc)
-same-group Outputs Inputs = inr (λ e. cc)
-same-group Outputs Outputs = inl refl
-same-group Outputs Others = inr (λ e. cc)
-same-group Others Inputs = inr (λ e. cc)
-same-group Others Outputs = inr (λ e. cc)
-same-group Others Others = inl refl
-
-dots-equal : (a b : Dot) → Decided (a ≡ b)
-dots-equal a b =
-    same ((a.m ≡ b.m) × ((a.l ≡ b.l) × (a.n ≡ b.n))) (a ≡ b)
-    ((λ h. same_dot a b h.0 h.1.0 h.1.1), (λ e. (ap (λ (d : Dot). d.m) e, (ap (λ (d : Dot). d.l) e, ap (λ (d : Dot). d.n) e))))
-    (both _ _ (cases_eq a.m b.m) (both _ _ (cases_eq a.l b.l) (cases_eq a.n b.n)))
 
 head-of : (x : Dot) (xs : List Dot) (y : Dot) (ys : List Dot) → x ∷ xs ≡ y ∷ ys → (x ≡ y) × (xs ≡ ys)
 head-of x xs y ys e = (cc, cc)

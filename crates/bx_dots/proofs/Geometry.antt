@@ -7,6 +7,7 @@ use Rattle.bx_grid.specs.declared.ratio.Ratio.{Ratio}
 use Rattle.bx_grid.specs.Tiles.{IsGrid, IsTile, x_of, y_of}
 use Rattle.bx_library.specs.declared.dot.Dot.{Dot}
 use Rattle.bx_library.specs.Tiles.{Tiles, IsLibrary}
+use Rattle.bx_library.proofs.DotOrder.{same_dot}
 use Rattle.bx_dots.specs.Places.{shift, left, top, moved_dot, LiesIn, IsStray}
 
 pub record IsSized (lib : Tiles) : Type 0 where
@@ -134,12 +135,6 @@ moved_lies lib r t own n m = record {
 
     high : (a b c : ℕ) → b < c → a + b < a + c
     high a b c h = omega arith
-
-pub same_dot : (a b : Dot) → a.m ≡ b.m → a.l ≡ b.l → a.n ≡ b.n → a ≡ b
-same_dot a b m l n = ap (λ x. dot x a.l a.n) m ∙ ap (λ x. dot b.m x a.n) l ∙ ap (λ x. dot b.m b.l x) n
-  where
-    dot : ℕ → ℕ → ℕ → Dot
-    dot m l n = record { m = m; l = l; n = n }
 
 cancel : (a b c : ℕ) → a + b ≡ a + c → b ≡ c
 cancel a b c e = omega arith

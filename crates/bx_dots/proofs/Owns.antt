@@ -16,7 +16,7 @@ use Rattle.bx_library.proofs.DotSets.{one_ascending}
 use Rattle.bx_dots.specs.Places.{left, top, moved_dot, moved_by}
 use Rattle.bx_dots.specs.Cuts.{group_of_row, AreOwn, ReadsAs, IsStrange}
 use Rattle.bx_dots.specs.Reading.{moved_back, is_among, IsFormWith}
-use Rattle.bx_dots.proofs.Geometry.{same_dot}
+use Rattle.bx_library.proofs.DotOrder.{same_dot}
 use Rattle.bx_dots.proofs.Cutting.{same_own, some_dot}
 
 -- where a tile stands and how large it is, by the numbers that are at hand

@@ -2,3 +2,4 @@ pub mod Places
 pub mod GridDots
 pub mod Cuts
 pub mod Reading
+pub mod Permits

@@ -69,7 +69,7 @@ cmp_from_before a b h =
 abbrev dot : ℕ → ℕ → ℕ → Dot
 dot m l n = record { m = m; l = l; n = n }
 
-same_dot : (a b : Dot) → a.m ≡ b.m → a.l ≡ b.l → a.n ≡ b.n → a ≡ b
+pub same_dot : (a b : Dot) → a.m ≡ b.m → a.l ≡ b.l → a.n ≡ b.n → a ≡ b
 same_dot a b m l n = ap (λ x. dot x a.l a.n) m ∙ ap (λ x. dot b.m x a.n) l ∙ ap (λ x. dot b.m b.l x) n
 
 pub equal_from_cmp : (a b : Dot) → dot_cmp a b ≡ Equal → a ≡ b

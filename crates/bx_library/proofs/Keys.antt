@@ -42,10 +42,10 @@ pub found_among : (es : List Entry) (name : List ℕ) → IsSome (get_member nam
 found_among [] name some = absurd (cc)
 found_among (e ∷ es) name some = found_at (slice_cmp nat_cmp name (string_bytes e.0)) name e.0 (keys_of es) (Some (view e.1)) (get_member name (members_view es)) refl (found_among es name) some
 
-same_text : (xs : List ℕ) → slice_cmp nat_cmp xs xs ≡ Equal
+pub same_text : (xs : List ℕ) → slice_cmp nat_cmp xs xs ≡ Equal
 same_text xs = tied_itself nat_list_cmp_total xs
 
-later_found : (o : Ordering) (d : Data) (later : Option Data) → IsSome later → IsSome (match_ordering o later (Some d) later)
+pub later_found : (o : Ordering) (d : Data) (later : Option Data) → IsSome later → IsSome (match_ordering o later (Some d) later)
 later_found Less d later some = some
 later_found Equal d later some = refl
 later_found Greater d later some = some
@@ -61,7 +61,7 @@ pub among_middle : (done : List Key) (k : Key) (rest : List Key) → Among (stri
 among_middle [] k rest = inl refl
 among_middle (d ∷ done) k rest = inr (among_middle done k rest)
 
-not_less : (o : Ordering) → o ≡ Equal → o ≢ Less
+pub not_less : (o : Ordering) → o ≡ Equal → o ≢ Less
 not_less o e = λ less. let no : Equal ≡ Less = sym e ∙ less in cc
 
 among_above : (k : Key) (rest : List Key) → AllByRecursion (λ y. string_cmp k y ≡ Less) rest → (other : List ℕ) → Among other rest → slice_cmp nat_cmp (string_bytes k) other ≡ Less

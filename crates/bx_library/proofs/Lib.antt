@@ -8,3 +8,5 @@ pub mod Pairs
 pub mod Drawing
 pub mod One
 pub mod Reading
+pub mod Deciding
+pub mod Settling

@@ -44,7 +44,7 @@ nonempty_same xs (y ∷ ys) same h =
 turned : (xs ys : List Dot) → HaveSameDots xs ys → HaveSameDots ys xs
 turned xs ys same = λ dot. ((same dot).1, (same dot).0)
 
-joined : (xs ys zs : List Dot) → HaveSameDots xs ys → HaveSameDots ys zs → HaveSameDots xs zs
+pub joined : (xs ys zs : List Dot) → HaveSameDots xs ys → HaveSameDots ys zs → HaveSameDots xs zs
 joined xs ys zs same also = λ dot. ((λ h. (also dot).0 ((same dot).0 h)), (λ h. (same dot).1 ((also dot).1 h)))
 
 pub alike_from_same : (w h : ℕ) (forms : Data) (all : List (List Dot)) → AreDrawn w h forms all → (f g : ℕ) → AreSame all f g → AreAlike forms f g
@@ -86,7 +86,7 @@ least_alike w h forms all drawn fine fault least = record {
 pub none_alike : (w h : ℕ) (forms : Data) (all : List (List Dot)) → AreDrawn w h forms all → AreFine w h forms → ((f g : ℕ) → AreSame all f g → ⊥) → IsFree (HasSameDots forms)
 none_alike w h forms all drawn fine none = λ fault same. none same.f same.g (same_from_alike w h forms all drawn fine same.f same.g same.alike)
 
-no_name : (form : ℕ) → form_count ≤ form → form_name form ≡ None
+pub no_name : (form : ℕ) → form_count ≤ form → form_name form ≡ None
 no_name form past = slice_get_past (map (λ line. line.0.now) FORMS) form (rw length-map past)
 
 -- a form that isn't in the table has no value

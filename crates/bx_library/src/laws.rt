@@ -27,3 +27,8 @@ pub fn bytes_give_one_thing()
     ensures { (bytes : List ℕ) (r s : Result Tiles LibraryFault) → Reads bytes r → Reads bytes s →
         r ≡ s }
 {}
+
+/// Bytes give a library, or they have a first fault.
+pub fn bytes_give_a_library_or_a_fault()
+    ensures { (bytes : List ℕ) → (result : Result Tiles LibraryFault) × Reads bytes result }
+{}

@@ -5,3 +5,4 @@ pub mod OneDesign
 pub mod Stops
 pub mod Order
 pub mod Written
+pub mod Deciding

@@ -1,6 +1,6 @@
 //! Laws about the definitions alone, each the clause of a function with an empty body. Nothing here
 //! runs.
-ghost use Rattle.std.specs.Prelude.{◌≡◌, ℕ, List};
+ghost use Rattle.std.specs.Prelude.{◌≡◌, ◌⊎◌, ℕ, List};
 ghost use Rattle.bx_grid.specs.declared.ratio.TheConstants.{MOST_LIMIT};
 ghost use Rattle.bx_lines.specs.Lines.{IsFirstBadLine};
 ghost use Rattle.bx_siqad.specs.Designs.{Drawing, IsDrawing};
@@ -22,6 +22,12 @@ pub fn a_text_of_a_design_has_no_bad_line()
         → IsFirstBadLine IsDesignText bytes k → j ≡ k }
     ensures none { (bytes : List ℕ) (k : ℕ) → IsDesignText bytes
         → IsFirstBadLine IsDesignText bytes k → ⊥ }
+{}
+
+/// Bytes are the text of a design, or they have a first bad line.
+pub fn bytes_are_a_design_or_have_a_bad_line()
+    ensures { (bytes : List ℕ) → IsDesignText bytes
+        ⊎ ((k : ℕ) × IsFirstBadLine IsDesignText bytes k) }
 {}
 
 /// The most that a side of a design is.

@@ -1,22 +1,21 @@
 -- A clause more: its watches, its entries, and whether it is active.
-use Rattle.std.proofs.Common.{◌≡◌, ◌≢◌, ℕ, zero, suc, ◌+◌, ◌*◌, ◌<◌, ◌≤◌, Bool, true, false, List, [], ◌∷◌, ◌++◌, length, get_or, take, slice_get, Some, refl, sym, ◌∙◌, ap, subst, inl, inr, ◌⊎◌, arith, length-take}
-use Rattle.std.specs.Prelude.{All, Contains}
+use Rattle.std.proofs.Common.{◌≡◌, ◌≢◌, ℕ, ◌+◌, ◌*◌, ◌<◌, ◌≤◌, Bool, true, List, [], ◌∷◌, ◌++◌, length, get_or, take, slice_get, Some, refl, sym, ◌∙◌, ap, subst, inl, inr, ◌⊎◌, arith, length-take}
+use Rattle.std.specs.Prelude.{Contains}
 use Rattle.std.proofs.lemmas.Bool.{cases_lt}
 use Rattle.std.proofs.lemmas.Option.{slice_get-get_or, slice_get_within, get_or_from_slice_get}
-use Rattle.std.proofs.lemmas.List.{take_all, take_at, take_more, get_or-take, length_push, get_or_append_left, get_or_push}
-use Rattle.bx_cnf.specs.Literals.{Literal, negated}
-use Rattle.bx_cnf.specs.Formulas.{Formula, IsFormula, IsClause}
+use Rattle.std.proofs.lemmas.List.{take_all, take_at, get_or-take, length_push, get_or_append_left, get_or_push}
+use Rattle.bx_cnf.specs.Literals.{Literal}
+use Rattle.bx_cnf.specs.Formulas.{Formula, IsClause}
 use Rattle.bx_cnf.specs.Assignments.{IsActive}
 use Rattle.bx_least_set.specs.Numbers.{has, Grows, IsNew}
 use Rattle.bx_watch.specs.declared.lists.Entry.{Entry}
 use Rattle.bx_watch.specs.declared.watches.Pair.{Pair}
-use Rattle.bx_watch.specs.Watching.{IsOver}
 use Rattle.bx_watch.specs.Lists.{list_of, Pushes, IsEmptyFor}
-use Rattle.bx_watch.specs.Watches.{IsOf, IsWatching, IsChosen}
-use Rattle.bx_watch.specs.Keeping.{Tables, IsListed, IsEntry, IsKept, ArePending, IsMore, IsReady, Enters, up_to}
+use Rattle.bx_watch.specs.Watches.{IsOf, IsWatching}
+use Rattle.bx_watch.specs.Keeping.{Tables, IsListed, IsMore, IsReady, Enters, up_to}
 use Rattle.bx_watch.proofs.Firsts.{take-with}
 use Rattle.bx_watch.proofs.Lits.{one-place}
-use Rattle.bx_watch.proofs.Keeps.{one-at, at-of, over-in, pushes-keeps, pushes-cases, pushes-there}
+use Rattle.bx_watch.proofs.Keeps.{at-of, pushes-keeps, pushes-cases, pushes-there}
 
 -- entries for the one watch, or for both
 pub enters-none : (lists : List (List Entry)) (k : ℕ) (clause : List Literal) (pair : Pair) → clause ≡ [] → Enters lists lists k clause pair
@@ -67,7 +66,7 @@ enters-two old mid new k clause pair full one two = record {
 }
 
 -- an item of a list that one was put behind
-front-or-last : {X : Type 0} (xs : List X) (x : X) (k : ℕ) (y : X) → slice_get (xs ++ x ∷ []) k ≡ Some y → (slice_get xs k ≡ Some y) ⊎ ((k ≡ length xs) × (x ≡ y))
+pub front-or-last : {X : Type 0} (xs : List X) (x : X) (k : ℕ) (y : X) → slice_get (xs ++ x ∷ []) k ≡ Some y → (slice_get xs k ≡ Some y) ⊎ ((k ≡ length xs) × (x ≡ y))
 front-or-last {X} xs x k y at = elim (cases_lt k (length xs)) [
   | inl below ↦ inl (slice_get-get_or xs k y below ∙ ap (λ (z : X). Some z) (sym (get_or_append_left xs (x ∷ []) y k below) ∙ get_or_from_slice_get (xs ++ x ∷ []) k y y at))
   | inr past ↦
@@ -80,7 +79,7 @@ in-front {X} xs x k y at =
     let below : k < length xs = slice_get_within xs k y at in
     slice_get-get_or (xs ++ x ∷ []) k y (omega (arith, below, length_push xs x)) ∙ ap (λ (z : X). Some z) (get_or_append_left xs (x ∷ []) y k below ∙ get_or_from_slice_get xs k y y at)
 
-at-last : {X : Type 0} (xs : List X) (x : X) → slice_get (xs ++ x ∷ []) (length xs) ≡ Some x
+pub at-last : {X : Type 0} (xs : List X) (x : X) → slice_get (xs ++ x ∷ []) (length xs) ≡ Some x
 at-last {X} xs x = slice_get-get_or (xs ++ x ∷ []) (length xs) x (omega (arith, length_push xs x)) ∙ ap (λ (z : X). Some z) (get_or_push xs x x (length xs) refl)
 
 is-empty : (c : List Literal) → (c ≡ []) ⊎ (c ≡ [] → ⊥)

@@ -1,22 +1,25 @@
 -- What is read of a clause, literal by literal.
 use Rattle.std.proofs.lemmas.Bool.{cases_eq}
 use Rattle.std.proofs.lemmas.Option.{get_or_from_slice_get, slice_get-get_or}
-use Rattle.std.proofs.Common.{Some, None, slice_get, ◌≡◌, ℕ, zero, suc, ◌<◌, ◌≤◌, List, [], ◌∷◌, ◌++◌, length, get_or, take, drop, length-take, ◌+◌, refl, sym, ◌∙◌, ap, subst, inl, inr, ◌⊎◌, arith}
+use Rattle.std.proofs.Common.{Some, None, true, false, slice_get, ◌≡◌, ℕ, zero, suc, ◌<◌, ◌≤◌, List, [], ◌∷◌, ◌++◌, length, get_or, take, drop, length-take, ◌+◌, refl, sym, ◌∙◌, ap, subst, inl, inr, ◌⊎◌, arith}
 use Rattle.std.specs.Prelude.{All, Contains}
 use Rattle.std.proofs.lemmas.List.Elements.{All-contains, All-from_get_or, All-get_or, All-push, Contains-push, Contains-append_left}
 use Rattle.std.proofs.lemmas.List.{take_more, take-append-drop, get_or-take}
 use Rattle.bx_cnf.specs.Formulas.{AscendAbove, IsClause}
 use Rattle.bx_cnf.proofs.Propagation.{clause_pairs}
 use Rattle.bx_cnf.specs.Literals.{Literal}
-use Rattle.bx_cnf.specs.Assignments.{IsFalse, IsFree, IsClauseFalse, LeavesOne, IsUnit, IsActive}
+use Rattle.bx_cnf.specs.Assignments.{IsFalse, IsClauseFalse, LeavesOne, IsActive}
 use Rattle.bx_watch.specs.declared.reading.Reading.{Reading}
-use Rattle.bx_watch.specs.declared.reading.Reading.TheVariants.{False, Unit, Other}
+use Rattle.bx_watch.specs.declared.reading.Reading.TheVariants.{False, Unit, Met, Other}
 use Rattle.bx_watch.specs.Watching.{IsOver, AreApart}
-use Rattle.bx_watch.specs.Readings.{IsBlocked, IsRead}
+use Rattle.bx_watch.specs.Readings.{LeavesTwo, IsBlocked, IsRead, is_open}
 use Rattle.bx_watch.proofs.Trails.{never_both}
 
 none_some : (m : Literal) → None ≡ Some m → ⊥
 none_some m e = cc
+
+true_false : true ≡ false → ⊥
+true_false e = cc
 
 some-same : (a b : Literal) → Some a ≡ Some b → a ≡ b
 some-same a b e = cc
@@ -73,53 +76,46 @@ blocked-inactive trail clause apart (inr (l, m, has_l, has_m, differ, isnt_l, is
       | inr fails ↦ isnt_l fails
     ]
 
-pub blocked-more : (trail clause rest : List Literal) → IsBlocked trail clause → IsBlocked trail (clause ++ rest)
-blocked-more trail clause rest (inl (l, has, holds)) = inl (l, Contains-append_left clause rest l has, holds)
-blocked-more trail clause rest (inr (l, m, has_l, has_m, differ, isnt_l, isnt_m)) =
-    inr (l, m, Contains-append_left clause rest l has_l, Contains-append_left clause rest m has_m, differ, isnt_l, isnt_m)
-
--- one literal more that is true
-pub read-true : (trail clause : List Literal) (l : Literal) → Contains trail l → IsBlocked trail (clause ++ l ∷ [])
-read-true trail clause l holds = inl (l, Contains-push clause l, holds)
+pub two-more : (trail clause rest : List Literal) → LeavesTwo trail clause → LeavesTwo trail (clause ++ rest)
+two-more trail clause rest (l, m, has_l, has_m, differ, isnt_l, isnt_m) =
+    (l, m, Contains-append_left clause rest l has_l, Contains-append_left clause rest m has_m, differ, isnt_l, isnt_m)
 
 -- one literal more that is false
+leaves-false : (trail clause : List Literal) (u l : Literal) → LeavesOne trail clause u → IsFalse trail l → LeavesOne trail (clause ++ l ∷ []) u
+leaves-false trail clause u l leaves fails = record {
+  place = leaves.place;
+  stands = get-front clause leaves.place u l leaves.stands;
+  this = leaves.this;
+  others = λ k m at other. elim (get-push clause l k m at) [
+    | inl front ↦ leaves.others k m front other
+    | inr last ↦ subst (IsFalse trail) last.1 fails
+  ];
+}
+
 pub read-false : (trail clause : List Literal) (l : Literal) (reading : Reading) → IsRead trail clause reading → IsFalse trail l → IsRead trail (clause ++ l ∷ []) reading
 read-false trail clause l False is fails = All-push (IsFalse trail) clause l is fails
-read-false trail clause l (Unit u) is fails = (
-  record {
-    place = is.0.place;
-    stands = get-front clause is.0.place u l is.0.stands;
-    this = is.0.this;
-    others = λ k m at other. elim (get-push clause l k m at) [
-      | inl front ↦ is.0.others k m front other
-      | inr last ↦ subst (IsFalse trail) last.1 fails
-    ];
-  },
-  is.1,
-)
-read-false trail clause l Other is fails = blocked-more trail clause (l ∷ []) is
+read-false trail clause l (Unit u) is fails = (leaves-false trail clause u l is.0 fails, is.1)
+read-false trail clause l (Met u) is fails = (leaves-false trail clause u l is.0 fails, is.1)
+read-false trail clause l Other is fails = two-more trail clause (l ∷ []) is
 
--- one literal more whose variable is free, behind false ones
-pub read-first : (trail clause : List Literal) (l : Literal) → IsClauseFalse trail clause → IsFree trail l → IsUnit trail (clause ++ l ∷ []) l
-read-first trail clause l fails free = (
-  record {
-    place = length clause;
-    stands = get-last clause l;
-    this = free.1;
-    others = λ k m at other. elim (get-push clause l k m at) [
-      | inl front ↦ All-contains (IsFalse trail) clause m fails (contains-at clause k m front)
-      | inr last ↦ absurd (other last.0)
-    ];
-  },
-  free,
-)
+-- one literal more that isn't false, behind false ones
+pub read-first : (trail clause : List Literal) (l : Literal) → IsClauseFalse trail clause → (IsFalse trail l → ⊥) → LeavesOne trail (clause ++ l ∷ []) l
+read-first trail clause l fails isnt = record {
+  place = length clause;
+  stands = get-last clause l;
+  this = isnt;
+  others = λ k m at other. elim (get-push clause l k m at) [
+    | inl front ↦ All-contains (IsFalse trail) clause m fails (contains-at clause k m front)
+    | inr last ↦ absurd (other last.0)
+  ];
+}
 
 -- one more that isn't false, behind another one
-pub read-second : (trail clause : List Literal) (u l : Literal) → IsUnit trail clause u → IsFree trail l → All (λ m. m.var < l.var) clause → IsBlocked trail (clause ++ l ∷ [])
-read-second trail clause u l is free below =
-    let has : Contains clause u = contains-at clause is.0.place u is.0.stands in
+pub read-second : (trail clause : List Literal) (u l : Literal) → LeavesOne trail clause u → (IsFalse trail l → ⊥) → All (λ m. m.var < l.var) clause → LeavesTwo trail (clause ++ l ∷ [])
+read-second trail clause u l leaves isnt below =
+    let has : Contains clause u = contains-at clause leaves.place u leaves.stands in
     let smaller : u.var < l.var = All-contains (λ m. m.var < l.var) clause u below has in
-    inr (u, l, Contains-append_left clause (l ∷ []) u has, Contains-push clause l, (λ e. omega (arith, smaller, ap (λ (x : Literal). x.var) e)), is.0.this, free.1)
+    (u, l, Contains-append_left clause (l ∷ []) u has, Contains-push clause l, (λ e. omega (arith, smaller, ap (λ (x : Literal). x.var) e)), leaves.this, isnt)
 
 -- one literal more of a clause
 pub read-more : (vars : ℕ) (trail clause : List Literal) (k : ℕ) (l : Literal) (reading more : Reading)
@@ -133,9 +129,16 @@ read-more vars trail clause k l reading more is below at read step =
     subst (λ (m : Literal). m.var < l.var) (sym same) (subst (λ (m : Literal). (get_or clause i l).var < m.var) (sym at) (clause_pairs vars clause is i k l before below))) in
     subst (λ (c : List Literal). IsRead trail c more) (ap (λ (m : Literal). take k clause ++ m ∷ []) at ∙ sym (take_more clause k l below)) (step read smaller)
 
--- what keeps a front of a clause from being active keeps the clause
-pub blocked-whole : (trail clause : List Literal) (k : ℕ) → IsBlocked trail (take k clause) → IsBlocked trail clause
-blocked-whole trail clause k is = subst (IsBlocked trail) (take-append-drop k clause) (blocked-more trail (take k clause) (drop k clause) is)
+-- what a front of a clause leaves the clause leaves
+pub two-whole : (trail clause : List Literal) (k : ℕ) → LeavesTwo trail (take k clause) → LeavesTwo trail clause
+two-whole trail clause k is = subst (LeavesTwo trail) (take-append-drop k clause) (two-more trail (take k clause) (drop k clause) is)
+
+-- a clause isn't active in which one literal is true, or of which two aren't false
+pub read-blocked : (trail clause : List Literal) (reading : Reading) → IsRead trail clause reading → is_open reading ≡ false → IsBlocked trail clause
+read-blocked trail clause False is closed = absurd (true_false closed)
+read-blocked trail clause (Unit l) is closed = absurd (true_false closed)
+read-blocked trail clause (Met l) is closed = inl (l, contains-at clause is.0.place l is.0.stands, is.1)
+read-blocked trail clause Other is closed = inr is
 
 -- each literal of a clause is over a variable
 pub literal-over : (vars : ℕ) (clause : List Literal) (k : ℕ) (l : Literal) → IsClause vars clause → k < length clause → l ≡ get_or clause k l → IsOver vars l

@@ -1,12 +1,12 @@
 -- A write to one of the lists of entries.
-use Rattle.std.proofs.Common.{◌≡◌, ◌≢◌, ℕ, ◌+◌, ◌-◌, ◌<◌, ◌≤◌, true, List, [], ◌∷◌, ◌++◌, length, get_or, set, map, slice_get, Some, Vec, Global, refl, sym, ◌∙◌, ap, subst, inl, inr, ◌⊎◌, arith, length-set}
-use Rattle.std.specs.Prelude.{Contains, vec_len}
+use Rattle.std.proofs.Common.{◌≡◌, ◌≢◌, ℕ, ◌+◌, ◌-◌, ◌<◌, true, List, [], ◌∷◌, ◌++◌, length, get_or, set, map, slice_get, Some, Vec, Global, sym, ◌∙◌, ap, subst, inl, inr, arith, length-set}
+use Rattle.std.specs.Prelude.{Contains}
 use Rattle.std.proofs.lemmas.Bool.{cases_eq, cases_lt}
 use Rattle.std.proofs.lemmas.Option.{slice_get-get_or, slice_get_within, get_or_from_slice_get}
-use Rattle.std.proofs.lemmas.List.{length-map, map-set, get_or-map, get_or-set_same, get_or-set_other, get_or_default, get_or_past, get_or_append_left, get_or_push, length_push}
+use Rattle.std.proofs.lemmas.List.{length-map, map-set, get_or-map, get_or-set_same, get_or-set_other, get_or_past, get_or_append_left, get_or_push, length_push}
 use Rattle.bx_cnf.specs.Literals.{Literal}
 use Rattle.bx_watch.specs.declared.lists.Entry.{Entry}
-use Rattle.bx_watch.specs.Lists.{place, list_of, Pushes, Drops, IsEmptyFor}
+use Rattle.bx_watch.specs.Lists.{place, list_of, Pushes, Drops, Clears}
 
 abbrev pub items_of : Vec Entry Global → List Entry
 items_of v = v.items
@@ -26,6 +26,13 @@ pub Pushes-set : (vs : List (Vec Entry Global)) (p : ℕ) (old new : Vec Entry G
 Pushes-set vs p old new l e same below is pushed = subst (λ (ls : List (List Entry)). Pushes (lists_of vs) ls l e) (sym (map-set items_of vs p new)) (record {
   sized = length-set (lists_of vs) p new.items;
   here = list-is vs p new l same below ∙ (pushed ∙ ap (λ (es : List Entry). es ++ e ∷ []) (list-was vs p old l same below is));
+  others = λ m apart. get_or-set_other (lists_of vs) p (place m) new.items [] (λ h. apart (h ∙ sym same));
+})
+
+pub Clears-set : (vs : List (Vec Entry Global)) (p : ℕ) (new : Vec Entry Global) (l : Literal) → place l ≡ p → p < length vs → new.items ≡ [] → Clears (lists_of vs) (lists_of (set vs p new)) l
+Clears-set vs p new l same below none = subst (λ (ls : List (List Entry)). Clears (lists_of vs) ls l) (sym (map-set items_of vs p new)) (record {
+  sized = length-set (lists_of vs) p new.items;
+  here = list-is vs p new l same below ∙ none;
   others = λ m apart. get_or-set_other (lists_of vs) p (place m) new.items [] (λ h. apart (h ∙ sym same));
 })
 

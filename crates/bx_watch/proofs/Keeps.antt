@@ -1,5 +1,5 @@
 -- What each event makes of the watches of clauses.
-use Rattle.std.proofs.Common.{◌≡◌, ◌≢◌, ℕ, zero, suc, ◌+◌, ◌*◌, ◌-◌, ◌<◌, ◌≤◌, Bool, true, false, cond, List, [], ◌∷◌, ◌++◌, length, get_or, set, take, slice_get, Some, None, refl, sym, ◌∙◌, ap, subst, inl, inr, ◌⊎◌, arith, length-set}
+use Rattle.std.proofs.Common.{◌≡◌, ◌≢◌, ℕ, ◌+◌, ◌*◌, ◌-◌, ◌<◌, Bool, true, false, cond, List, [], ◌∷◌, ◌++◌, length, get_or, set, slice_get, Some, refl, sym, ◌∙◌, ap, subst, inl, inr, ◌⊎◌, arith, length-set}
 use Rattle.std.specs.Prelude.{All, Contains}
 use Rattle.std.proofs.lemmas.Bool.{cases_eq}
 use Rattle.std.proofs.lemmas.Option.{slice_get-get_or, slice_get_within, get_or_from_slice_get, slice_get_cases}
@@ -7,18 +7,18 @@ use Rattle.std.proofs.lemmas.List.{get_or-set_same, get_or-set_other, get_or_def
 use Rattle.std.proofs.lemmas.List.Elements.{All-contains, All-from_get_or, All-push, Contains-append_left, Contains-push, Contains-push_cases}
 use Rattle.bx_cnf.specs.Literals.{Literal, negated}
 use Rattle.bx_cnf.specs.Formulas.{Formula, IsFormula, IsClause}
-use Rattle.bx_cnf.specs.Assignments.{IsFalse, IsFree, IsActive}
-use Rattle.bx_least_set.specs.Numbers.{has, Inserts, IsLeast}
+use Rattle.bx_cnf.specs.Assignments.{IsFalse, IsActive}
+use Rattle.bx_least_set.specs.Numbers.{has, Inserts}
 use Rattle.bx_watch.specs.declared.lists.Entry.{Entry}
 use Rattle.bx_watch.specs.declared.watches.Pair.{Pair}
 use Rattle.bx_watch.specs.Watching.{IsOver, AreApart}
-use Rattle.bx_watch.specs.Lists.{place, list_of, HasEntry, Pushes, Drops}
-use Rattle.bx_watch.specs.Watches.{IsOf, HasOther, OthersFail, SomeHolds, IsWatching}
-use Rattle.bx_watch.specs.Keeping.{Tables, IsListed, IsEntry, IsKept, ArePending, IsMore, IsSettled, Visits, Falsifies, MayWake, AreReadable, Releases}
+use Rattle.bx_watch.specs.Lists.{place, list_of, Pushes}
+use Rattle.bx_watch.specs.Watches.{IsOf, OthersFail, SomeHolds}
+use Rattle.bx_watch.specs.Keeping.{Tables, IsKept, AreIn, IsMore, IsSettled, Visits, Releases}
 use Rattle.bx_watch.proofs.Trails.{literal-same}
-use Rattle.bx_watch.proofs.ClauseReads.{contains-at, blocked-inactive, literal-over}
-use Rattle.bx_watch.proofs.Lits.{dec-of, take-has}
-use Rattle.bx_watch.proofs.Wakes.{IsWatching-push, IsWatching-pop, was-active, is-active, active-MayWake}
+use Rattle.bx_watch.proofs.ClauseReads.{blocked-inactive, literal-over}
+use Rattle.bx_watch.proofs.Lits.{dec-of}
+use Rattle.bx_watch.proofs.Wakes.{IsWatching-push, IsWatching-pop, was-active}
 
 some-same : {X : Type 0} (a b : X) → Some a ≡ Some b → a ≡ b
 some-same a b e = cc
@@ -105,7 +105,7 @@ kept-assigned f trail t l kept settled = record {
   turn clause pair k (inr others) = inl others.0
 
 pub pending-assigned : (f : Formula) (trail : List Literal) (old : List Bool) (t : Tables) (l : Literal) → IsFormula f → AreApart (trail ++ l ∷ []) → IsKept f trail t
-    → ((k : ℕ) → IsSettled f trail (negated l) t k) → ArePending f trail old → IsMore old t.pending → ArePending f (trail ++ l ∷ []) t.pending
+    → ((k : ℕ) → IsSettled f trail (negated l) t k) → AreIn f trail old → IsMore old t.pending → AreIn f (trail ++ l ∷ []) t.pending
 pending-assigned f trail old t l formed apart kept settled were more k clause at active =
     let (pair, at_pair) = pair-at f trail t k clause kept at in
     elim (kept.watches k clause pair at at_pair) [
@@ -120,8 +120,8 @@ pending-assigned f trail old t l formed apart kept settled were more k clause at
     ]
 
 -- a literal is freed
-pub kept-freed : (f : Formula) (trail : List Literal) (old new : Tables) (l : Literal) → IsKept f (trail ++ l ∷ []) old → Releases trail l old new → IsKept f trail new
-kept-freed f trail old new l kept releases = kept-with f trail old new (record {
+pub kept-freed : (f : Formula) (trail : List Literal) (old new : Tables) (l : Literal) (parked left : List (List Entry)) → IsKept f (trail ++ l ∷ []) old → Releases l old new parked left → IsKept f trail new
+kept-freed f trail old new l parked left kept releases = kept-with f trail old new (record {
   sized = kept.sized;
   room = kept.room;
   lists_sized = kept.lists_sized;
@@ -131,34 +131,6 @@ kept-freed f trail old new l kept releases = kept-with f trail old new (record {
   ];
   entries = kept.entries;
 }) releases.lists_stay releases.pairs_stay releases.more.sized
-
-pub pending-freed : (f : Formula) (trail : List Literal) (old new : Tables) (l : Literal) → IsFormula f → AreApart (trail ++ l ∷ []) → IsKept f (trail ++ l ∷ []) old
-    → Releases trail l old new → ArePending f (trail ++ l ∷ []) old.pending → ArePending f trail new.pending
-pending-freed f trail old new l formed apart kept releases were k clause at active =
-    let (pair, at_pair) = pair-at f (trail ++ l ∷ []) old k clause kept at in
-    elim (kept.watches k clause pair at at_pair) [
-      | inl none ↦ releases.more.stays k (were k clause at (subst (IsActive (trail ++ l ∷ [])) (sym none) (empty-active (trail ++ l ∷ []))))
-      | inr both ↦
-          let w = IsWatching-pop trail clause pair l both.0 in
-          let formed_clause : IsClause f.vars clause = All-at (IsClause f.vars) f.clauses k clause formed.each at in
-          elim (dec-of pair l) [
-            | inl of ↦
-                let has_l : Contains clause l = both.0.has l of in
-                let (entry, listed, is) = both.1 l of in
-                let (other, at_other, beside) = kept.entries l entry (over-in f.vars clause l formed_clause has_l) listed in
-                let same : other ≡ clause = one-at f.clauses k other clause (subst (λ (n : ℕ). slice_get f.clauses n ≡ Some other) is at_other) at in
-                subst (λ (n : ℕ). has new.pending n ≡ true) is
-                (releases.woken entry listed (active-MayWake trail clause l entry.blocker apart has_l (subst (λ (c : List Literal). Contains c entry.blocker) same beside) active))
-            | inr none ↦ releases.more.stays k (were k clause at (is-active f.vars trail clause pair l formed_clause apart w none active))
-          ]
-    ]
-
--- what is read on the way through the list of a literal
-pub readable : (f : Formula) (trail : List Literal) (t : Tables) (l : Literal) → IsFormula f → IsKept f trail t → IsOver f.vars l → AreReadable f.vars t l
-readable f trail t l formed kept over entry listed =
-    let (clause, at, blocker) = kept.entries l entry over listed in
-    let is : IsClause f.vars clause = All-at (IsClause f.vars) f.clauses entry.clause clause formed.each at in
-    (omega (arith, kept.room, slice_get_within f.clauses entry.clause clause at), over-in f.vars clause entry.blocker is blocker)
 
 pub IsMore-same : (s : List Bool) → IsMore s s
 IsMore-same s = record { sized = refl; stays = λ k there. there }

@@ -7,7 +7,8 @@ pub mod Keeps
 pub mod Moves
 pub mod Entries
 pub mod Ranks
+pub mod Attaching
+pub mod Parking
 pub mod Cleaning
 pub mod Releasing
 pub mod Events
-pub mod Attaching

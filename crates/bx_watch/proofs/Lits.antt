@@ -1,17 +1,15 @@
 -- Literals of a trail and of a clause: which are among them, and at which places.
-use Rattle.std.proofs.Common.{◌≡◌, ◌≢◌, ℕ, zero, suc, ◌+◌, ◌-◌, ◌<◌, ◌≤◌, Bool, not, true, false, List, [], ◌∷◌, ◌++◌, length, get_or, take, slice_get, Some, None, refl, sym, ◌∙◌, ap, subst, inl, inr, ◌⊎◌, arith, length-append, length-take}
-use Rattle.std.specs.Prelude.{All, Contains}
+use Rattle.std.proofs.Common.{◌≡◌, ◌≢◌, ℕ, zero, suc, ◌<◌, ◌≤◌, Bool, not, true, false, List, [], ◌∷◌, ◌++◌, length, get_or, take, slice_get, Some, refl, sym, ◌∙◌, ap, inl, inr, ◌⊎◌, arith, length-take}
+use Rattle.std.specs.Prelude.{Contains}
 use Rattle.std.proofs.lemmas.Bool.{cases_eq, cases_lt}
 use Rattle.std.proofs.lemmas.Option.{slice_get-get_or, slice_get_within, get_or_from_slice_get}
 use Rattle.std.proofs.lemmas.List.{get_or-take, take-append-le, take_all}
-use Rattle.std.proofs.lemmas.List.Elements.{Contains-append_left}
 use Rattle.bx_cnf.specs.Literals.{Literal, negated}
 use Rattle.bx_cnf.specs.Formulas.{IsClause}
 use Rattle.bx_cnf.proofs.Propagation.{clause_pairs}
 use Rattle.bx_watch.specs.declared.watches.Pair.{Pair}
 use Rattle.bx_watch.specs.Watches.{IsOf}
 use Rattle.bx_watch.proofs.Trails.{no_negation, literal-same, either}
-use Rattle.bx_watch.proofs.ClauseReads.{contains-at}
 
 pub lit-eq : (l m : Literal) → (l ≡ m) ⊎ (l ≢ m)
 lit-eq l m = elim (cases_eq l.var m.var) [

@@ -1,6 +1,6 @@
 -- A clause watches another literal, and its entry leaves the list of the one before.
-use Rattle.std.proofs.Common.{◌≡◌, ◌≢◌, ℕ, zero, suc, ◌+◌, ◌*◌, ◌<◌, ◌≤◌, Bool, true, false, List, [], ◌∷◌, ◌++◌, length, get_or, set, take, slice_get, Some, None, Ok, Err, Result, IfOk, refl, sym, ◌∙◌, ap, subst, inl, inr, ◌⊎◌, arith, length-set}
-use Rattle.std.specs.Prelude.{All, Contains}
+use Rattle.std.proofs.Common.{◌≡◌, ◌≢◌, ℕ, zero, suc, ◌+◌, ◌<◌, ◌≤◌, Bool, true, false, List, [], ◌∷◌, ◌++◌, length, get_or, set, take, slice_get, Some, Ok, Err, Result, IfOk, refl, sym, ◌∙◌, ap, subst, inl, inr, ◌⊎◌, arith, length-set}
+use Rattle.std.specs.Prelude.{Contains}
 use Rattle.std.proofs.lemmas.Bool.{cases_eq, cases_lt}
 use Rattle.std.proofs.lemmas.Option.{slice_get_within, slice_get_cases}
 use Rattle.std.proofs.lemmas.List.{take_more}
@@ -13,11 +13,11 @@ use Rattle.bx_watch.specs.declared.lists.Entry.{Entry}
 use Rattle.bx_watch.specs.declared.watches.Pair.{Pair}
 use Rattle.bx_watch.specs.Watching.{IsOver}
 use Rattle.bx_watch.specs.Lists.{place, list_of, HasEntry, Pushes, Drops}
-use Rattle.bx_watch.specs.Watches.{IsOf, HasOther, OthersFail, SomeHolds, IsWatching}
-use Rattle.bx_watch.specs.Keeping.{Tables, IsListed, IsEntry, IsKept, ArePending, IsMore, IsSettled, Visits, Falsifies}
+use Rattle.bx_watch.specs.Watches.{IsOf, HasOther, OthersFail, IsWatching}
+use Rattle.bx_watch.specs.Keeping.{Tables, IsListed, IsEntry, IsKept, IsMore, IsSettled, Visits, Falsifies}
 use Rattle.bx_watch.proofs.ClauseReads.{contains-at}
 use Rattle.bx_watch.proofs.Lits.{take-has}
-use Rattle.bx_watch.proofs.Keeps.{one-at, get-set-same, get-set-other, All-at, has-at, at-of, pair-at, over-in, place-apart, nonempty, empty-active, IsMore-same, pushes-keeps, pushes-cases, pushes-there}
+use Rattle.bx_watch.proofs.Keeps.{one-at, get-set-same, get-set-other, All-at, at-of, over-in, place-apart, nonempty, IsMore-same, pushes-keeps, pushes-cases, pushes-there}
 
 -- the other watch is one of the two
 other-of : (pair : Pair) (l other : Literal) → HasOther pair l (Some other) → IsOf pair other

@@ -1,9 +1,9 @@
 -- Places in a trail, and the literals that became false last.
-use Rattle.std.proofs.Common.{◌≡◌, ◌≢◌, ℕ, zero, suc, ◌+◌, ◌-◌, ◌<◌, ◌≤◌, List, [], ◌∷◌, ◌++◌, length, get_or, set, take, slice_get, Some, refl, sym, ◌∙◌, ap, subst, inl, inr, ◌⊎◌, arith, length-set, length-take}
+use Rattle.std.proofs.Common.{◌≡◌, ◌≢◌, ℕ, zero, suc, ◌-◌, ◌<◌, ◌≤◌, List, [], ◌∷◌, ◌++◌, length, get_or, set, take, slice_get, Some, refl, sym, ◌∙◌, ap, subst, inl, inr, ◌⊎◌, arith, length-set, length-take}
 use Rattle.std.specs.Prelude.{All, Contains}
-use Rattle.std.proofs.lemmas.Bool.{cases_order, cases_eq, cases_lt}
+use Rattle.std.proofs.lemmas.Bool.{cases_order, cases_lt}
 use Rattle.std.proofs.lemmas.Option.{slice_get-get_or, slice_get_within, get_or_from_slice_get}
-use Rattle.std.proofs.lemmas.List.{get_or-set_same, get_or-set_other, get_or_default, get_or-take}
+use Rattle.std.proofs.lemmas.List.{get_or-set_same, get_or-set_other, get_or-take}
 use Rattle.std.proofs.lemmas.List.Elements.{All-contains, Contains-append_left, Contains-push, Contains-push_cases}
 use Rattle.bx_cnf.specs.Literals.{Literal, negated}
 use Rattle.bx_cnf.specs.Assignments.{IsFalse, IsFree}
@@ -13,7 +13,7 @@ use Rattle.bx_watch.specs.Readings.{ArePlaces, IsRank, Outlasts}
 use Rattle.bx_watch.specs.Watches.{IsOf, IsWatching, IsOrdered, IsChosen}
 use Rattle.bx_watch.proofs.Trails.{fresh, same_place}
 use Rattle.bx_watch.proofs.ClauseReads.{contains-at, get-push, get-front}
-use Rattle.bx_watch.proofs.Lits.{lit-eq, negated-same, place-of, has-take, dec-of}
+use Rattle.bx_watch.proofs.Lits.{lit-eq, negated-same, place-of, has-take}
 
 pub ArePlaces-assigned : (vars : ℕ) (places : List ℕ) (trail : List Literal) (l : Literal) → ArePlaces vars places trail → All (IsOver vars) trail → IsOver vars l → IsFree trail l
     → ArePlaces vars (set places (l.var - 1) (length trail)) (trail ++ l ∷ [])

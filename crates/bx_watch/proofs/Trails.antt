@@ -75,11 +75,11 @@ AreValues-assigned vars values trail l are over is_over free =
       some-same a b e = cc
 
 -- the front of a trail
-front-apart : (trail : List Literal) (l : Literal) → AreApart (trail ++ l ∷ []) → AreApart trail
-front-apart trail l apart i j d before below =
-    let longer : j < length (trail ++ l ∷ []) = omega (arith, below, length-append trail (l ∷ [])) in
-    let at_i : get_or (trail ++ l ∷ []) i d ≡ get_or trail i d = get_or_append_left trail (l ∷ []) d i (omega (arith, before, below)) in
-    let at_j : get_or (trail ++ l ∷ []) j d ≡ get_or trail j d = get_or_append_left trail (l ∷ []) d j below in
+pub AreApart-front : (front back : List Literal) → AreApart (front ++ back) → AreApart front
+AreApart-front front back apart i j d before below =
+    let longer : j < length (front ++ back) = omega (arith, below, length-append front back) in
+    let at_i : get_or (front ++ back) i d ≡ get_or front i d = get_or_append_left front back d i (omega (arith, before, below)) in
+    let at_j : get_or (front ++ back) j d ≡ get_or front j d = get_or_append_left front back d j below in
     λ e. apart i j d before longer (ap (λ (x : Literal). x.var) at_i ∙ (e ∙ sym (ap (λ (x : Literal). x.var) at_j)))
 
 pub last-apart : (trail : List Literal) (l m : Literal) → AreApart (trail ++ l ∷ []) → Contains trail m → m.var ≢ l.var
@@ -94,7 +94,7 @@ All-front P trail l all = All-from_get_or P trail l (λ i below. subst P (get_or
     (All-get_or P (trail ++ l ∷ []) i l (omega (arith, below, length-append trail (l ∷ []))) all))
 
 pub AreApart-freed : (trail : List Literal) (l : Literal) → AreApart (trail ++ l ∷ []) → AreApart trail
-AreApart-freed = front-apart
+AreApart-freed trail l = AreApart-front trail (l ∷ [])
 
 pub AreValues-freed : (vars : ℕ) (values : List (Option Bool)) (trail : List Literal) (l : Literal)
     → AreValues vars values (trail ++ l ∷ []) → All (IsOver vars) (trail ++ l ∷ []) → AreApart (trail ++ l ∷ [])

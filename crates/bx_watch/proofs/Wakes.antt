@@ -1,16 +1,15 @@
--- When a clause becomes active: only where a literal that it watches became false or free.
-use Rattle.std.proofs.Common.{◌≡◌, ◌≢◌, ℕ, zero, suc, ◌<◌, List, [], ◌∷◌, ◌++◌, length, get_or, take, slice_get, Some, refl, sym, ◌∙◌, ap, subst, inl, inr, ◌⊎◌, arith}
-use Rattle.std.specs.Prelude.{All, Contains}
+-- When a clause becomes active: only where a literal that it watches became false.
+use Rattle.std.proofs.Common.{◌≡◌, ◌≢◌, ℕ, zero, suc, ◌<◌, List, [], ◌∷◌, ◌++◌, length, get_or, take, slice_get, Some, refl, sym, ◌∙◌, subst, inl, inr, ◌⊎◌, arith}
+use Rattle.std.specs.Prelude.{Contains}
 use Rattle.std.proofs.lemmas.List.{get_or_default}
-use Rattle.std.proofs.lemmas.List.Elements.{All-contains, All-from_get_or, Contains-append_left, Contains-push, Contains-push_cases}
+use Rattle.std.proofs.lemmas.List.Elements.{All-contains, All-from_get_or, Contains-append_left}
 use Rattle.bx_cnf.specs.Literals.{Literal, negated}
 use Rattle.bx_cnf.specs.Formulas.{IsClause}
-use Rattle.bx_cnf.specs.Assignments.{IsFalse, IsFree, IsClauseFalse, LeavesOne, IsUnit, IsActive}
+use Rattle.bx_cnf.specs.Assignments.{IsFalse, IsActive}
 use Rattle.bx_watch.specs.declared.watches.Pair.{Pair}
 use Rattle.bx_watch.specs.Watching.{AreApart}
 use Rattle.bx_watch.specs.Watches.{IsOf, OthersFail, SomeHolds, IsWatching}
-use Rattle.bx_watch.specs.Keeping.{MayWake}
-use Rattle.bx_watch.proofs.Trails.{never_both, AreApart-freed}
+use Rattle.bx_watch.proofs.Trails.{never_both}
 use Rattle.bx_watch.proofs.ClauseReads.{contains-at, get-front, get-push, left_or_false, blocked-inactive}
 use Rattle.bx_watch.proofs.Lits.{lit-eq, negated-back, dec-contains, dec-of, place-of, take-has, take-push, take-whole, within-get, one-place}
 
@@ -161,36 +160,4 @@ was-active vars trail clause pair l is apart w none active = elim (lit-eq pair.f
             (λ m has isnt. take-has trail s.place (negated m) (subst (λ (t : List Literal). IsFalse t m) same (s.others m has isnt)))
         | inr last ↦ absurd (none (subst (IsOf pair) (negated-back l s.x last.1) (first-of pair s.x s.y s.two)))
       ]
-]
-
--- a clause that is active where a literal was freed, and doesn't watch it, was active before
-pub is-active : (vars : ℕ) (trail clause : List Literal) (pair : Pair) (l : Literal) → IsClause vars clause → AreApart (trail ++ l ∷ []) → IsWatching trail clause pair
-    → (IsOf pair l → ⊥) → IsActive trail clause → IsActive (trail ++ l ∷ []) clause
-is-active vars trail clause pair l is apart w none active = elim (lit-eq pair.first pair.second) [
-  | inl same ↦
-      let one = w.alone same in
-      subst (IsActive (trail ++ l ∷ [])) (sym one) (single-active (trail ++ l ∷ []) pair.first
-      (λ holds. later pair.first (inl refl) (single-not_true trail pair.first front (subst (IsActive trail) one active)) holds))
-  | inr differ ↦
-      let s = shape trail clause pair front w differ active in
-      active-from vars (trail ++ l ∷ []) clause pair s.x s.y is s.two (w.has s.y (second-of pair s.x s.y s.two))
-      (Contains-append_left trail (l ∷ []) (negated s.x) (contains-at trail s.place (negated s.x) s.stands))
-      (later s.y (second-of pair s.x s.y s.two) s.not_true)
-      (λ m has isnt. Contains-append_left trail (l ∷ []) (negated m) (take-has trail s.place (negated m) (s.others m has isnt)))
-] where
-  front : AreApart trail
-  front = AreApart-freed trail l apart
-
-  later : (m : Literal) → IsOf pair m → (Contains trail m → ⊥) → Contains (trail ++ l ∷ []) m → ⊥
-  later m of isnt holds = elim (Contains-push_cases trail l m holds) [ inl before ↦ isnt before | inr here ↦ none (subst (IsOf pair) (sym here) of) ]
-
--- of an active clause with a literal that was freed, any other literal is false
-pub active-MayWake : (trail clause : List Literal) (l : Literal) (blocker : Literal) → AreApart (trail ++ l ∷ []) → Contains clause l → Contains clause blocker → IsActive trail clause → MayWake trail l blocker
-active-MayWake trail clause l blocker apart has beside (inl fails) = inr (All-contains (IsFalse trail) clause blocker fails beside)
-active-MayWake trail clause l blocker apart has beside (inr (u, unit)) = elim (left_or_false trail clause u blocker unit.0 beside) [
-  | inl same ↦ elim (left_or_false trail clause u l unit.0 has) [
-    | inl this ↦ inl (sym same ∙ this)
-    | inr fails ↦ absurd (never_both (trail ++ l ∷ []) l apart (Contains-push trail l) (Contains-append_left trail (l ∷ []) (negated l) fails))
-  ]
-  | inr fails ↦ inr fails
 ]

@@ -1,15 +1,17 @@
 -- What the watches of clauses keep at all times, and what each event makes of them.
-use Rattle.std.specs.Prelude.{◌≡◌, ◌⊎◌, ℕ, ◌+◌, ◌*◌, ◌<◌, Bool, true, false, List, [], ◌∷◌, ◌++◌, Some, Contains, slice_get, length, take}
-use Rattle.bx_cnf.specs.Literals.{Literal, negated}
+use Rattle.std.specs.Prelude.{◌≡◌, ◌⊎◌, ℕ, ◌*◌, ◌<◌, Bool, true, false, List, [], ◌++◌, Some, Contains, slice_get, length, take}
+use Rattle.bx_cnf.specs.Literals.{Literal}
 use Rattle.bx_cnf.specs.Formulas.{Formula, IsFormula}
-use Rattle.bx_cnf.specs.Assignments.{IsFalse, IsActive}
+use Rattle.bx_cnf.specs.Assignments.{IsActive}
 use Rattle.bx_least_set.specs.Numbers.{has, IsLeast}
 use Rattle.bx_watch.specs.declared.lists.Entry.{Entry}
+use Rattle.bx_watch.specs.declared.reading.Reading.{Reading}
+use Rattle.bx_watch.specs.declared.reading.Reading.TheVariants.{Met}
 use Rattle.bx_watch.specs.declared.watches.Pair.{Pair}
 use Rattle.bx_watch.specs.declared.watches.Watches.{Watches}
 use Rattle.bx_watch.specs.Watching.{Watch, IsOver}
 use Rattle.bx_watch.specs.Readings.{Assigned, IsTrail}
-use Rattle.bx_watch.specs.Lists.{list_of, HasEntry}
+use Rattle.bx_watch.specs.Lists.{list_of, HasEntry, Clears}
 use Rattle.bx_watch.specs.Watches.{IsOf, OthersFail, SomeHolds, IsWatching}
 
 -- the lists of the literals, the watches of the clauses, and the set of the clauses that may be active
@@ -39,20 +41,44 @@ pub record IsKept (f : Formula) (trail : List Literal) (t : Tables) : Type 0 whe
   pub entries : (l : Literal) (entry : Entry) → IsOver f.vars l → Contains (list_of t.lists l) entry → IsEntry f.clauses entry
 
 -- each active clause is in the set
-abbrev pub ArePending : Formula → List Literal → List Bool → Type 0
-ArePending f trail pending = (k : ℕ) (clause : List Literal) → slice_get f.clauses k ≡ Some clause → IsActive trail clause → has pending k ≡ true
+abbrev pub AreIn : Formula → List Literal → List Bool → Type 0
+AreIn f trail pending = (k : ℕ) (clause : List Literal) → slice_get f.clauses k ≡ Some clause → IsActive trail clause → has pending k ≡ true
+
+-- the clauses that are parked at literals are some of so many
+abbrev pub AreWithin : ℕ → List (List Entry) → Type 0
+AreWithin count parked = (l : Literal) (entry : Entry) → Contains (list_of parked l) entry → entry.clause < count
+
+-- each literal has a list of its own, of the clauses that are parked at it
+pub record AreParked (f : Formula) (parked : List (List Entry)) : Type 0 where
+  pub sized : length parked ≡ 2 * f.vars
+  pub within : AreWithin (length f.clauses) parked
+
+-- a clause is parked at one of these literals
+abbrev pub IsParked : List (List Entry) → List Literal → ℕ → Type 0
+IsParked parked literals k = (l : Literal) × Contains literals l × HasEntry parked l k
+
+-- A clause is active under a front of the trail: it is so once the literals behind that are freed, be it none
+-- of them.
+abbrev pub MayWake : List Literal → List Literal → Type 0
+MayWake trail clause = (front : List Literal) × (back : List Literal) × (trail ≡ front ++ back) × IsActive front clause
+
+-- a clause that is active under a front of the trail is in the set, or parked at a literal behind that
+abbrev pub ArePending : Formula → List Literal → List Bool → List (List Entry) → Type 0
+ArePending f trail pending parked = (front back : List Literal) (k : ℕ) (clause : List Literal) → trail ≡ front ++ back
+    → slice_get f.clauses k ≡ Some clause → IsActive front clause → (has pending k ≡ true) ⊎ IsParked parked back k
 
 -- the least clause of the set, if there is one, is active
 abbrev pub IsClean : Formula → List Literal → List Bool → Type 0
 IsClean f trail pending = (k : ℕ) (clause : List Literal) → IsLeast pending k → slice_get f.clauses k ≡ Some clause → IsActive trail clause
 
 -- all that is kept between two calls
-pub record IsWhole (f : Formula) (a : Assigned) (t : Tables) : Type 0 where
+pub record IsWhole (f : Formula) (a : Assigned) (t : Tables) (parked : List (List Entry)) : Type 0 where
   pub formed : IsFormula f
   pub trail : IsTrail a
   pub one_size : a.vars ≡ f.vars
   pub kept : IsKept f a.literals t
-  pub pending : ArePending f a.literals t.pending
+  pub parking : AreParked f parked
+  pub pending : ArePending f a.literals t.pending parked
   pub clean : IsClean f a.literals t.pending
 
 -- what stands for a whole one, and for one that is only to be dropped
@@ -91,35 +117,34 @@ pub record Falsifies (f : Formula) (trail : List Literal) (l : Literal) (old new
   pub more : IsMore old.pending new.pending
   pub settled : (k : ℕ) → IsSettled f trail l new k
 
--- A clause of a literal that isn't false may be active: the literal beside it is that one, or it is false.
-abbrev pub MayWake : List Literal → Literal → Literal → Type 0
-MayWake trail l blocker = (blocker ≡ l) ⊎ IsFalse trail blocker
-
--- what is read where the list of a literal is gone through
-abbrev pub AreReadable : ℕ → Tables → Literal → Type 0
-AreReadable vars t l = (entry : Entry) → Contains (list_of t.lists l) entry
-    → (entry.clause < length t.pending) × IsOver vars entry.blocker
-
--- the clauses in the list of a literal that may be active were put into the set
-pub record Releases (trail : List Literal) (l : Literal) (old new : Tables) : Type 0 where
+-- the clauses that were parked at a literal are in the set again
+pub record Releases (l : Literal) (old new : Tables) (parked left : List (List Entry)) : Type 0 where
   pub lists_stay : new.lists ≡ old.lists
   pub pairs_stay : new.pairs ≡ old.pairs
   pub more : IsMore old.pending new.pending
-  pub woken : (entry : Entry) → Contains (list_of old.lists l) entry → MayWake trail l entry.blocker
-      → has new.pending entry.clause ≡ true
+  pub woken : (entry : Entry) → Contains (list_of parked l) entry → has new.pending entry.clause ≡ true
+  pub clears : Clears parked left l
 
--- the set was cleaned
-pub record Cleans (f : Formula) (trail : List Literal) (old new : Tables) : Type 0 where
+-- a clause was parked at the literal that alone meets it, if there is one
+pub record Parks (old new : List (List Entry)) (reading : Reading) (k : ℕ) : Type 0 where
+  pub sized : length new ≡ length old
+  pub stays : (l : Literal) (entry : Entry) → Contains (list_of old l) entry → Contains (list_of new l) entry
+  pub met : (l : Literal) → reading ≡ Met l → HasEntry new l k
+  pub none_other : (l : Literal) (entry : Entry) → Contains (list_of new l) entry → Contains (list_of old l) entry ⊎ (entry.clause ≡ k)
+
+-- the set was cleaned, and what was taken out of it is parked where it will be active again
+pub record Cleans (f : Formula) (trail : List Literal) (old new : Tables) (parked : List (List Entry)) : Type 0 where
   pub lists_stay : new.lists ≡ old.lists
   pub pairs_stay : new.pairs ≡ old.pairs
   pub sized : length new.pending ≡ length old.pending
-  pub pending : ArePending f trail new.pending
+  pub parking : AreParked f parked
+  pub pending : ArePending f trail new.pending parked
   pub clean : IsClean f trail new.pending
 
 -- the watches of the first clauses, with each active one in the set
 pub record IsReady (f : Formula) (trail : List Literal) (t : Tables) : Type 0 where
   pub kept : IsKept f trail t
-  pub pending : ArePending f trail t.pending
+  pub pending : AreIn f trail t.pending
 
 -- entries that lead to a clause, if it isn't empty, were put into the lists of its watches
 pub record Enters (old new : List (List Entry)) (k : ℕ) (clause : List Literal) (pair : Pair) : Type 0 where

@@ -30,6 +30,12 @@ pub record Drops (old new : List (List Entry)) (l : Literal) (at : ℕ) : Type 0
   pub none_new : (entry : Entry) → Contains (list_of new l) entry → Contains (list_of old l) entry
   pub others : (m : Literal) → place m ≢ place l → list_of new m ≡ list_of old m
 
+-- all entries of a literal were taken out
+pub record Clears (old new : List (List Entry)) (l : Literal) : Type 0 where
+  pub sized : length new ≡ length old
+  pub here : list_of new l ≡ []
+  pub others : (m : Literal) → place m ≢ place l → list_of new m ≡ list_of old m
+
 -- a clause has an entry in the list of a literal
 abbrev pub HasEntry : List (List Entry) → Literal → ℕ → Type 0
 HasEntry lists l clause = (entry : Entry) × Contains (list_of lists l) entry × (entry.clause ≡ clause)

@@ -1,9 +1,9 @@
 -- What is read of literals and clauses under a trail.
 use Rattle.std.specs.Prelude.{◌≡◌, ◌≢◌, ◌⊎◌, ℕ, ◌-◌, ◌<◌, Bool, true, false, List, [], ◌++◌, Option, Some, None, All, Contains, slice_get, slice_index, slice_index_or, length, take, option_to_list}
 use Rattle.bx_cnf.specs.Literals.{Literal, negated}
-use Rattle.bx_cnf.specs.Assignments.{IsFalse, IsFree, IsClauseFalse, IsUnit}
+use Rattle.bx_cnf.specs.Assignments.{IsFalse, IsFree, IsClauseFalse, LeavesOne, IsUnit}
 use Rattle.bx_watch.specs.declared.reading.Reading.{Reading}
-use Rattle.bx_watch.specs.declared.reading.Reading.TheVariants.{False, Unit, Other}
+use Rattle.bx_watch.specs.declared.reading.Reading.TheVariants.{False, Unit, Met, Other}
 use Rattle.bx_watch.specs.Watching.{IsOver, AreApart}
 
 -- how many variables there are, and the literals that are assigned, in their order
@@ -50,14 +50,25 @@ pub record TakesLast (old new : Assigned) (last : Option Literal) : Type 0 where
   pub split : old.literals ≡ new.literals ++ option_to_list last
   pub none : last ≡ None → old.literals ≡ []
 
+-- two literals of the clause aren't false
+abbrev pub LeavesTwo : List Literal → List Literal → Type 0
+LeavesTwo trail clause = (l : Literal) × (m : Literal) × Contains clause l × Contains clause m × (l ≢ m)
+    × (IsFalse trail l → ⊥) × (IsFalse trail m → ⊥)
+
 -- a literal of the clause is true, or two of them aren't false
 abbrev pub IsBlocked : List Literal → List Literal → Type 0
-IsBlocked trail clause =
-    ((l : Literal) × Contains clause l × Contains trail l)
-    ⊎ ((l : Literal) × (m : Literal) × Contains clause l × Contains clause m × (l ≢ m) × (IsFalse trail l → ⊥) × (IsFalse trail m → ⊥))
+IsBlocked trail clause = ((l : Literal) × Contains clause l × Contains trail l) ⊎ LeavesTwo trail clause
 
--- a clause is false or unit, or there is what keeps it from being either
+-- none of a clause's literals, or one, or two of them aren't false; the one is free or true
 abbrev pub IsRead : List Literal → List Literal → Reading → Type 0
 IsRead trail clause False = IsClauseFalse trail clause
 IsRead trail clause (Unit l) = IsUnit trail clause l
-IsRead trail clause Other = IsBlocked trail clause
+IsRead trail clause (Met l) = LeavesOne trail clause l × Contains trail l
+IsRead trail clause Other = LeavesTwo trail clause
+
+-- what is read of an active clause
+abbrev pub is_open : Reading → Bool
+is_open False = true
+is_open (Unit l) = true
+is_open (Met l) = false
+is_open Other = false

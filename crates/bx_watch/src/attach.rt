@@ -1,15 +1,14 @@
 //! A clause is added. All its literals may be false, as those of a learned one are, so it watches those
 //! that became false last: when the search goes back, they are free first.
-ghost use Rattle.std.specs.Prelude.{◌≡◌, ◌+◌, ◌<◌, ◌≤◌, true, List, [], ◌∷◌, ◌++◌, OnOk, length};
+ghost use Rattle.std.specs.Prelude.{◌≡◌, ℕ, ◌+◌, ◌<◌, ◌≤◌, true, List, [], ◌∷◌, ◌++◌, Some, OnOk, length, slice_get};
 ghost use Rattle.bx_cnf.specs.Literals.{Literal};
 ghost use Rattle.bx_cnf.specs.Formulas.{IsClause, IsFormula};
-ghost use Rattle.bx_cnf.specs.Assignments.{IsActive};
 ghost use Rattle.bx_least_set.specs.Numbers.{has};
 ghost use Rattle.bx_watch.specs.Watching.{IsOver};
 ghost use Rattle.bx_watch.specs.Readings.{IsTrail};
 ghost use Rattle.bx_watch.specs.Lists.{place};
 ghost use Rattle.bx_watch.specs.Watches.{IsWatching, IsOrdered, IsChosen};
-ghost use Rattle.bx_watch.specs.Keeping.{tables_of, IsReady, IsMore, Enters, up_to};
+ghost use Rattle.bx_watch.specs.Keeping.{tables_of, IsReady, IsMore, MayWake, Enters, up_to};
 
 use crate::growth::push_tight;
 use crate::lists::Entry;
@@ -37,8 +36,13 @@ impl Watches {
         requires trail { IsTrail trail.now }
         requires one_size { trail.now.vars ≡ store.now.vars }
         requires ready { IsReady (up_to number store.now) trail.now.literals (tables_of self.old) }
-        ensures { OnOk result (IsReady (up_to (number + 1) store.now) trail.now.literals
+        ensures ready { OnOk result (IsReady (up_to (number + 1) store.now) trail.now.literals
             (tables_of self.new)) }
+        ensures stays { OnOk result ((k : ℕ) → has self.old.pending k ≡ true
+            → has self.new.pending k ≡ true) }
+        ensures woken { OnOk result ((clause : List Literal)
+            → slice_get store.now.clauses number ≡ Some clause → MayWake trail.now.literals clause
+            → has self.new.pending number ≡ true) }
     {
         let literals = store.clause(number);
         let pair = chosen(literals, trail);
@@ -71,7 +75,7 @@ impl Watches {
         Ok(())
     }
 
-    // Puts a clause into the set if it is active.
+    // Puts a clause into the set if it is active, or will be where literals are freed.
     fn wake(&mut self, number: u32, literals: &[Lit], trail: &Trail)
         requires formed { IsTrail trail.now }
         requires clause { IsClause trail.now.vars literals.now }
@@ -79,7 +83,7 @@ impl Watches {
         ensures lists { self.new.lists ≡ self.old.lists }
         ensures pairs { self.new.pairs ≡ self.old.pairs }
         ensures more { IsMore self.old.pending self.new.pending }
-        ensures active { IsActive trail.now.literals literals.now
+        ensures woken { MayWake trail.now.literals literals.now
             → has self.new.pending number ≡ true }
     {
         if !read(literals, trail).is_other() {

@@ -1,7 +1,7 @@
 //! For each literal the clauses that watch it. A list is made at the size that was counted for it, and
 //! grows only where clauses that watch another literal now come to it, or that were learned.
 ghost use Rattle.std.specs.Prelude.{◌≡◌, ◌<◌, IfOk, OnOk, length, slice_get, Some};
-ghost use Rattle.bx_watch.specs.Lists.{place, list_of, IsEmptyFor, Pushes, Drops};
+ghost use Rattle.bx_watch.specs.Lists.{place, list_of, IsEmptyFor, Pushes, Drops, Clears};
 
 use crate::growth::push_tight;
 use bx_cnf::Lit;
@@ -50,6 +50,21 @@ impl Lists {
         Ok(Lists { lists })
     }
 
+    /// So many lists without entries, and with no room for any yet.
+    ///
+    /// # Errors
+    ///
+    /// `NoMemory`.
+    pub(crate) fn none(alloc: Global, count: usize) -> Result<Self, NoMemory>
+        ensures { IfOk result (IsEmptyFor count) }
+    {
+        let mut lists = Vec::with_capacity(alloc, count)?;
+        for _ in 0..count {
+            lists.push(Vec::new(alloc))?;
+        }
+        Ok(Lists { lists })
+    }
+
     /// How many entries a literal has.
     pub(crate) fn len(&self, lit: Lit) -> usize
         requires { place lit < length self.now }
@@ -65,6 +80,14 @@ impl Lists {
         ensures { slice_get (list_of self.now lit) at ≡ Some result }
     {
         self.lists[place(lit)][at]
+    }
+
+    /// A literal's entries.
+    pub(crate) fn of(&self, lit: Lit) -> &[Entry]
+        requires { place lit < length self.now }
+        ensures { result.now ≡ list_of self.now lit }
+    {
+        &self.lists[place(lit)]
     }
 
     /// Puts an entry behind those of a literal.
@@ -89,6 +112,14 @@ impl Lists {
     {
         let list = &mut self.lists[place(lit)];
         list.swap_remove(at);
+    }
+
+    /// Takes all entries of a literal out. Their room stays.
+    pub(crate) fn clear(&mut self, lit: Lit)
+        requires { place lit < length self.old }
+        ensures { Clears self.old self.new lit }
+    {
+        self.lists[place(lit)].clear();
     }
 }
 

@@ -12,7 +12,9 @@ pub(crate) enum Reading {
     False,
     /// All but this one, whose variable is free.
     Unit(Lit),
-    /// A literal is true, or two aren't false.
+    /// All but this one, which is true.
+    Met(Lit),
+    /// Two of its literals aren't false.
     Other,
 }
 
@@ -32,18 +34,19 @@ pub(crate) fn read(clause: &[Lit], trail: &Trail) -> Reading
 }
 
 impl Reading {
-    ghost use Rattle.std.specs.Prelude.{IsTrue, ◌↔◌, ◌≡◌, ◌++◌, ◌∷◌, [], ◌<◌, List, All};
+    ghost use Rattle.std.specs.Prelude.{IsTrue, ◌↔◌, ◌≡◌, ◌++◌, ◌∷◌, [], ◌<◌, List, All, Contains};
     ghost use Rattle.bx_cnf.specs.Assignments.{IsFree};
-    ghost use Rattle.bx_watch.specs.Readings.{IsValue, IsRead};
+    ghost use Rattle.bx_watch.specs.Watching.{AreApart};
+    ghost use Rattle.bx_watch.specs.Readings.{IsValue, IsRead, is_open};
     ghost use Rattle.bx_cnf.specs.Literals.{Literal};
 
     // What is read of a clause with one more literal, of this value and over a variable of its own.
     fn with(self, lit: Lit, value: Option<bool>) -> Self
-        ensures { (trail clause : List Literal) → IsRead trail clause self → IsValue trail lit value
-            → All (λ l. l.var < lit.var) clause → IsRead trail (clause ++ lit ∷ []) result }
+        ensures { (trail clause : List Literal) → AreApart trail → IsRead trail clause self
+            → IsValue trail lit value → All (λ l. l.var < lit.var) clause → IsRead trail (clause ++ lit ∷ []) result }
     {
         match value {
-            Some(true) => Reading::Other,
+            Some(true) => self.with_true(lit),
             Some(false) => self,
             None => self.with_free(lit),
         }
@@ -57,14 +60,33 @@ impl Reading {
         match self {
             Reading::False => Reading::Unit(lit),
             Reading::Unit(_) => Reading::Other,
+            Reading::Met(_) => Reading::Other,
             Reading::Other => Reading::Other,
         }
     }
 
-    /// Whether the clause is neither false nor unit.
+    // The same where the literal is true.
+    fn with_true(self, lit: Lit) -> Self
+        ensures { (trail clause : List Literal) → AreApart trail → IsRead trail clause self
+            → Contains trail lit → All (λ l. l.var < lit.var) clause → IsRead trail (clause ++ lit ∷ []) result }
+    {
+        match self {
+            Reading::False => Reading::Met(lit),
+            Reading::Unit(_) | Reading::Met(_) | Reading::Other => Reading::Other,
+        }
+    }
+
+    /// Whether two literals of the clause aren't false.
     pub(crate) fn is_other(&self) -> bool
         ensures { IsTrue result ↔ (self.now ≡ Reading.Other) }
     {
         matches!(self, Reading::Other)
+    }
+
+    /// Whether the clause is false or unit.
+    pub(crate) fn is_active(&self) -> bool
+        ensures { result ≡ is_open self.now }
+    {
+        matches!(self, Reading::False | Reading::Unit(_))
     }
 }

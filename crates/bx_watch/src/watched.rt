@@ -7,6 +7,7 @@ ghost use Rattle.bx_cnf.specs.Assignments.{IsFree};
 ghost use Rattle.bx_watch.specs.Watching.{IsWatch, IsOver, IsLast, Frees, NoneActive, IsLeastActive};
 
 use crate::active::Active;
+use crate::lists::Lists;
 use crate::reading::{Reading, read};
 use crate::store::Store;
 use crate::trail::Trail;
@@ -23,6 +24,8 @@ pub struct Watched<'a> {
     store: Store<'a>,
     trail: Trail,
     watches: Watches,
+    // at each literal the clauses that it alone met when they were taken out of the set
+    parked: Lists,
     // Not so after want of memory: then it stands for no clause at all, and refuses all further calls.
     whole: bool,
 }
@@ -37,7 +40,8 @@ impl<'a> Model for Watched<'a> {
 
     ghost view = { λ w. watch_of w.whole w.store w.trail };
 
-    ghost invariant = { λ w. w.whole ≡ true → IsWhole w.store w.trail (tables_of w.watches) };
+    ghost invariant = { λ w. w.whole ≡ true →
+        IsWhole w.store w.trail (tables_of w.watches) w.parked };
 }
 
 impl<'a> Watched<'a> {
@@ -50,11 +54,13 @@ impl<'a> Watched<'a> {
         let store = Store::new(alloc, clauses);
         let trail = Trail::new(alloc, clauses.vars())?;
         let mut watches = Watches::new(alloc, &store, &trail)?;
-        watches.clean(&store, &trail);
+        let mut parked = Lists::none(alloc, 2 * clauses.vars() as usize)?;
+        watches.clean(&mut parked, &store, &trail)?;
         Ok(Watched {
             store,
             trail,
             watches,
+            parked,
             whole: true,
         })
     }
@@ -76,7 +82,8 @@ impl<'a> Watched<'a> {
         self.whole = false;
         self.watches.falsify(!lit, &self.store, &self.trail)?;
         self.trail.push(lit)?;
-        self.watches.clean(&self.store, &self.trail);
+        self.watches
+            .clean(&mut self.parked, &self.store, &self.trail)?;
         self.whole = true;
         Ok(())
     }
@@ -93,10 +100,14 @@ impl<'a> Watched<'a> {
         if !self.whole {
             return Err(NoMemory);
         }
-        if let Some(lit) = self.trail.pop() {
-            self.watches.release(lit, &self.trail);
-            self.watches.clean(&self.store, &self.trail);
-        }
+        let Some(lit) = self.trail.pop() else {
+            return Ok(());
+        };
+        self.whole = false;
+        self.watches.release(lit, &mut self.parked);
+        self.watches
+            .clean(&mut self.parked, &self.store, &self.trail)?;
+        self.whole = true;
         Ok(())
     }
 
@@ -118,7 +129,8 @@ impl<'a> Watched<'a> {
         self.store.push(literals)?;
         let number = self.store.len() - 1;
         self.watches.attach(number, &self.store, &self.trail)?;
-        self.watches.clean(&self.store, &self.trail);
+        self.watches
+            .clean(&mut self.parked, &self.store, &self.trail)?;
         self.whole = true;
         Ok(())
     }
@@ -137,7 +149,7 @@ impl<'a> Watched<'a> {
         match read(self.store.clause(number), &self.trail) {
             Reading::False => Some(Active::False(number + 1)),
             Reading::Unit(lit) => Some(Active::Unit(number + 1, lit)),
-            Reading::Other => None,
+            Reading::Met(_) | Reading::Other => None,
         }
     }
 }

@@ -1,4 +1,4 @@
-use Rattle.std.proofs.Common.{take, rules, subst, arith}
+use Rattle.std.proofs.Common.{rules, subst, arith}
 use Rattle.std.proofs.lemmas.List.{take_all}
 use Rattle.bx_watch.specs.Watches.{OthersFail}
 use Rattle.bx_watch.proofs.ClauseReads.{literal-over}

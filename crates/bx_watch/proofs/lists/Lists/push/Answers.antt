@@ -1,4 +1,4 @@
-use Rattle.std.proofs.Common.{◌≡◌, ◌<◌, List, length, ap, sym, arith}
+use Rattle.std.proofs.Common.{◌<◌, length, ap, sym, arith}
 use Rattle.std.proofs.lemmas.List.{length-map}
 use Rattle.bx_watch.proofs.Entries.{items_of, Pushes-set}
 use Rattle.bx_watch.proofs.lists.Lists.push.Goals as goal

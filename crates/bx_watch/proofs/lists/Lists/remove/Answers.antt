@@ -1,6 +1,6 @@
-use Rattle.std.proofs.Common.{◌≡◌, ◌<◌, ◌-◌, List, length, get_or, ap, sym, ◌∙◌, arith}
+use Rattle.std.proofs.Common.{◌≡◌, ◌<◌, ◌-◌, length, get_or, ap, sym, ◌∙◌, arith}
 use Rattle.std.proofs.lemmas.List.{length-map}
-use Rattle.bx_watch.proofs.Entries.{items_of, lists_of, list-was, Drops-set, IsSwapped}
+use Rattle.bx_watch.proofs.Entries.{items_of, list-was, Drops-set, IsSwapped}
 use Rattle.bx_watch.specs.Lists.{list_of}
 use Rattle.bx_watch.proofs.lists.Lists.remove.Goals as goal
 

@@ -1,4 +1,4 @@
-use Rattle.std.proofs.Common.{◌≡◌, ◌++◌, ◌∷◌, [], ◌<◌, List, length, sym, ◌∙◌, ap, subst, arith, append_assoc}
+use Rattle.std.proofs.Common.{◌≡◌, ◌++◌, ◌∷◌, [], ◌<◌, List, length, sym, ◌∙◌, ap, subst, append_assoc}
 use Rattle.bx_cnf.specs.Literals.{Literal}
 use Rattle.bx_cnf.specs.Formulas.{Formula, IsClause, IsFormula}
 use Rattle.bx_watch.proofs.Keeps.{IsFormula-push}

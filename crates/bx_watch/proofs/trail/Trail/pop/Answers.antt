@@ -1,6 +1,5 @@
-use Rattle.std.proofs.Common.{◌≡◌, ◌++◌, ◌∷◌, [], List, length, sym, subst, length-set}
+use Rattle.std.proofs.Common.{◌≡◌, ◌++◌, ◌∷◌, [], length, subst, length-set}
 use Rattle.std.specs.Prelude.{All}
-use Rattle.bx_cnf.specs.Literals.{Literal}
 use Rattle.bx_watch.specs.Watching.{IsOver, AreApart}
 use Rattle.bx_watch.specs.Readings.{AreValues, ArePlaces}
 use Rattle.bx_watch.proofs.Trails.{All-front, AreApart-freed, AreValues-freed}

@@ -1,4 +1,4 @@
-use Rattle.std.proofs.Common.{◌≡◌, length, sym, ◌∙◌, subst, length-set}
+use Rattle.std.proofs.Common.{length, sym, subst, length-set}
 use Rattle.std.proofs.lemmas.List.Elements.{All-push}
 use Rattle.bx_cnf.specs.Assignments.{IsFree}
 use Rattle.bx_watch.specs.Watching.{IsOver}

@@ -24,8 +24,8 @@ clean-requires-clause-pending c =
     let free : IsFree c.self.inside.trail.literals c.args.lit = subst (λ (w : Watch). IsFree w.trail c.args.lit) (sym view) c.requires.is_free in
     let falsifies : Falsifies c.self.inside.store c.self.inside.trail.literals (negated c.args.lit) (tables_of c.self.inside.watches) (tables_of c.falsify.new.self) =
     subst (λ (l : Literal). Falsifies c.self.inside.store c.self.inside.trail.literals l (tables_of c.self.inside.watches) (tables_of c.falsify.new.self)) c.not.ensures c.in_ok-falsify.ensures in
-    subst (λ (b : Assigned). ArePending c.self.inside.store b.literals c.falsify.new.self.pending) (sym c.in_ok-push.ensures)
-    (assigned-pending c.self.inside.store c.self.inside.trail (tables_of c.self.inside.watches) (tables_of c.falsify.new.self) c.args.lit whole free falsifies)
+    subst (λ (b : Assigned). ArePending c.self.inside.store b.literals c.falsify.new.self.pending c.self.inside.parked) (sym c.in_ok-push.ensures)
+    (assigned-pending c.self.inside.store c.self.inside.trail (tables_of c.self.inside.watches) (tables_of c.falsify.new.self) c.self.inside.parked c.args.lit whole free falsifies)
 
 pub invariant_of-self-2 : goal.invariant_of-self-2
 invariant_of-self-2 c _ =
@@ -36,6 +36,6 @@ invariant_of-self-2 c _ =
     let free : IsFree c.self.inside.trail.literals c.args.lit = subst (λ (w : Watch). IsFree w.trail c.args.lit) (sym view) c.requires.is_free in
     let falsifies : Falsifies c.self.inside.store c.self.inside.trail.literals (negated c.args.lit) (tables_of c.self.inside.watches) (tables_of c.falsify.new.self) =
     subst (λ (l : Literal). Falsifies c.self.inside.store c.self.inside.trail.literals l (tables_of c.self.inside.watches) (tables_of c.falsify.new.self)) c.not.ensures c.in_ok-falsify.ensures in
-    subst (λ (b : Assigned). IsWhole c.self.inside.store b (tables_of c.clean.new.self)) (sym c.in_ok-push.ensures)
-    (assigned-whole c.self.inside.store c.self.inside.trail (tables_of c.self.inside.watches) (tables_of c.falsify.new.self) (tables_of c.clean.new.self) c.args.lit whole over free falsifies
-    (subst (λ (b : Assigned). Cleans c.self.inside.store b.literals (tables_of c.falsify.new.self) (tables_of c.clean.new.self)) c.in_ok-push.ensures c.clean.ensures))
+    subst (λ (b : Assigned). IsWhole c.self.inside.store b (tables_of c.clean.new.self) c.clean.new.parked) (sym c.in_ok-push.ensures)
+    (assigned-whole c.self.inside.store c.self.inside.trail (tables_of c.falsify.new.self) (tables_of c.clean.new.self) c.self.inside.parked c.clean.new.parked (tables_of c.self.inside.watches) c.args.lit whole over free falsifies
+    (subst (λ (b : Assigned). Cleans c.self.inside.store b.literals (tables_of c.falsify.new.self) (tables_of c.clean.new.self) c.clean.new.parked) c.in_ok-push.ensures c.in_ok-clean.ensures))

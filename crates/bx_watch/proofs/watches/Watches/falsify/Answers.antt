@@ -1,8 +1,8 @@
-use Rattle.std.proofs.Common.{◌≡◌, ◌<◌, ◌+◌, length, ap, refl, arith, rules}
-use Rattle.bx_watch.specs.Lists.{list_of, place}
+use Rattle.std.proofs.Common.{length, ap, arith}
+use Rattle.bx_watch.specs.Lists.{list_of}
 use Rattle.bx_watch.specs.Keeping.{tables_of}
 use Rattle.bx_watch.proofs.Keeps.{IsMore-same, item-at, place-below}
-use Rattle.bx_watch.proofs.Moves.{IsWalked, walked-all, walked-stays, walked-drops}
+use Rattle.bx_watch.proofs.Moves.{walked-all, walked-stays, walked-drops}
 use Rattle.bx_watch.proofs.watches.Watches.falsify.Goals as goal
 
 pub loop-at-init : goal.loop-at-init

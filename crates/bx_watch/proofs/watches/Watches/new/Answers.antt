@@ -1,4 +1,4 @@
-use Rattle.std.proofs.Common.{◌≡◌, ◌*◌, length, ap, ◌∙◌, sym, subst, arith, rules}
+use Rattle.std.proofs.Common.{◌≡◌, ◌*◌, length, ap, ◌∙◌, subst, arith}
 use Rattle.bx_watch.specs.Lists.{IsEmptyFor}
 use Rattle.bx_watch.specs.Keeping.{tables_of}
 use Rattle.bx_watch.proofs.Attaching.{ready-none, ready-all}

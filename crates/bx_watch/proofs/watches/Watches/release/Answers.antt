@@ -1,25 +1,29 @@
-use Rattle.std.proofs.Common.{◌+◌, sym, subst, arith}
-use Rattle.bx_watch.specs.declared.watches.Watches.{Watches}
+use Rattle.std.proofs.Common.{◌≡◌, List, length, slice_get, Some, sym, ◌∙◌, ap, subst, arith}
+use Rattle.std.proofs.lemmas.Option.{slice_get-get_or}
+use Rattle.bx_watch.specs.declared.lists.Entry.{Entry}
+use Rattle.bx_watch.specs.Lists.{list_of}
 use Rattle.bx_watch.specs.Keeping.{tables_of}
-use Rattle.bx_watch.proofs.Keeps.{IsMore-same, IsMore-insert}
-use Rattle.bx_watch.proofs.Releasing.{IsReleasing, releasing-readable, releasing-more, releasing-all}
+use Rattle.bx_watch.proofs.Keeps.{has-at, IsMore-insert}
+use Rattle.bx_watch.proofs.Releasing.{IsReleasing, releasing-more, releasing-all}
 use Rattle.bx_watch.proofs.watches.Watches.release.Goals as goal
-use Rattle.bx_watch.proofs.watches.Watches.release.Goals.{then-may_wake, else-may_wake}
-
-pub may_wake-requires : goal.may_wake-requires
-may_wake-requires c = (releasing-readable _ _ _ _ _ c.loop-at.invariant _ _ c.requires.readable c.entry-item.ensures).1
 
 pub insert-requires : goal.insert-requires
-insert-requires c = (releasing-readable _ _ _ _ _ c.loop-at.invariant _ _ c.requires.readable c.entry-item.ensures).0
+insert-requires c =
+    let items = c.of-item-items.result.now in
+    let item = c.item-item.result in
+    let stands : slice_get items c.loop-item.item-index ≡ Some item = slice_get-get_or items c.loop-item.item-index item c.loop-item-test.true ∙ ap (λ (e : Entry). Some e) (sym c.item-item.is) in
+    let listed = subst (λ (es : List Entry). slice_get es c.loop-item.item-index ≡ Some item) c.of-item-items.ensures stands in
+    omega (arith, c.requires.within c.args.lit item (has-at (list_of c.args.parked.now c.args.lit) c.loop-item.item-index item listed), c.loop-item.invariant.more.sized)
 
-pub loop-at-preserved : goal.loop-at-preserved
-loop-at-preserved c =
-    elim c.if-may_wake.branch [
-      | then-may_wake w ↦ subst (λ (v : Watches). IsReleasing c.args.trail.now.literals c.args.lit (tables_of c.args.self.now) (tables_of v) (c.loop-at.at + 1)) (sym w.self-is)
-          (releasing-more _ _ _ _ _ c.loop-at.invariant c.entry-item.result w.insert.new.self c.entry-item.ensures (IsMore-insert _ _ _ w.insert.ensures) (λ may. w.insert.ensures.there))
-      | else-may_wake w ↦ subst (λ (v : Watches). IsReleasing c.args.trail.now.literals c.args.lit (tables_of c.args.self.now) (tables_of v) (c.loop-at.at + 1)) (sym w.self-is)
-          (releasing-more _ _ _ _ _ c.loop-at.invariant c.entry-item.result c.loop-at.self.pending c.entry-item.ensures (IsMore-same _) (λ may. absurd (c.may_wake.ensures w.if-may_wake.false may)))
-    ]
+pub loop-item-preserved : goal.loop-item-preserved
+loop-item-preserved c =
+    let items = c.of-item-items.result.now in
+    let item = c.item-item.result in
+    let stands : slice_get items c.loop-item.item-index ≡ Some item = slice_get-get_or items c.loop-item.item-index item c.loop-item-test.true ∙ ap (λ (e : Entry). Some e) (sym c.item-item.is) in
+    releasing-more items (tables_of c.args.self.now) (tables_of c.loop-item.self) c.loop-item.item-index item c.insert.new.self c.loop-item.invariant stands (IsMore-insert _ _ _ c.insert.ensures) c.insert.ensures.there
 
 pub returns : goal.returns
-returns c = releasing-all _ _ _ _ _ c.loop-at.invariant (omega (arith, c.loop-at-test.false, c.len-at-end.ensures))
+returns c =
+    let here = subst (λ (es : List Entry). IsReleasing es (tables_of c.args.self.now) (tables_of c.loop-item.self) c.loop-item.item-index) c.of-item-items.ensures c.loop-item.invariant in
+    let count : length c.of-item-items.result.now ≡ length (list_of c.args.parked.now c.args.lit) = ap length c.of-item-items.ensures in
+    releasing-all c.args.lit (tables_of c.args.self.now) (tables_of c.loop-item.self) c.loop-item.item-index c.args.parked.now c.clear.new.self here (omega (arith, c.loop-item-test.false, count)) c.clear.ensures

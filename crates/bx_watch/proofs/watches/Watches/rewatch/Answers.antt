@@ -1,7 +1,6 @@
-use Rattle.std.proofs.Common.{◌≡◌, ◌<◌, length, slice_get, Some, refl, sym, ◌∙◌, ap, subst, arith, rules}
+use Rattle.std.proofs.Common.{◌≡◌, slice_get, Some, refl, sym, subst, arith, rules}
 use Rattle.std.proofs.lemmas.Option.{slice_get_read}
 use Rattle.bx_cnf.specs.Formulas.{IsClause}
-use Rattle.bx_watch.specs.declared.watches.Pair.{Pair}
 use Rattle.bx_watch.specs.Watching.{IsOver}
 use Rattle.bx_watch.specs.Keeping.{tables_of}
 use Rattle.bx_watch.proofs.Keeps.{over-in, All-at, visits-true, visits-insert}

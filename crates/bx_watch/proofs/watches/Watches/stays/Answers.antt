@@ -1,4 +1,4 @@
-use Rattle.std.proofs.Common.{◌≡◌, ◌<◌, true, false, List, length, slice_get, Some, refl, sym, ◌∙◌, ap, subst, arith, rules}
+use Rattle.std.proofs.Common.{◌≡◌, true, false, List, slice_get, Some, sym, subst, arith}
 use Rattle.std.specs.Prelude.{Contains}
 use Rattle.std.proofs.lemmas.Option.{slice_get_read, slice_get_within}
 use Rattle.bx_cnf.specs.Formulas.{IsClause}
@@ -8,7 +8,7 @@ use Rattle.bx_watch.specs.declared.watches.Pair.{Pair}
 use Rattle.bx_watch.specs.Watches.{HasOther}
 use Rattle.bx_watch.specs.Watching.{IsOver}
 use Rattle.bx_watch.specs.Lists.{list_of}
-use Rattle.bx_watch.specs.Keeping.{tables_of, IsEntry, Visits}
+use Rattle.bx_watch.specs.Keeping.{tables_of, Visits}
 use Rattle.bx_watch.proofs.Keeps.{over-in, All-at, has-at, one-at, visits-true, visits-none}
 use Rattle.bx_watch.proofs.Moves.{other-in, if-ok-map}
 use Rattle.bx_watch.proofs.watches.Watches.stays.Goals as goal

@@ -11,7 +11,7 @@ use Rattle.bx_cnf.specs.Formulas.{AscendAbove}
 use Rattle.bx_cnf.specs.Assignments.{IsFalse}
 use Rattle.bx_proof.specs.Steps.{Step}
 use Rattle.bx_proof.specs.Accepted.{with_steps}
-use Rattle.bx_check.proofs.Lefts.{holds_at, get_take}
+use Rattle.bx_check.proofs.Lefts.{get_take}
 
 pub get_append_right : {X : Type 0} (xs ys : List X) (i j : ℕ) → i ≡ length xs + j → slice_get (xs ++ ys) i ≡ slice_get ys j
 get_append_right [] ys i j at = let same : i ≡ j = omega arith in ap (slice_get ys) same
@@ -28,18 +28,8 @@ pub step_clause : (clauses : List (List Literal)) (steps : List Step) (i k : ℕ
 step_clause clauses steps i k c at is =
     get_append_right clauses (map (λ (s : Step). s.literals) steps) i k at ∙ slice_get-map (λ (s : Step). s.literals) steps k ∙ is
 
--- the step that was read
-pub step_at : {B : Type 0} (f : Step → B) (o : Option Step) (x : B) → option_map f o ≡ Some x → (s : Step) × (o ≡ Some s) × (f s ≡ x)
-step_at f None x e = let never : ⊥ = cc in absurd never
-step_at f (Some s) x e = (s, refl, (cc))
-
-pub step_within : (vars : ℕ) (steps : List Step) (k : ℕ) (c : List Literal) → All (λ (s : Step). All (λ (l : Literal). l.var ≤ vars) s.literals) steps → option_map (λ (s : Step). s.literals) (slice_get steps k) ≡ Some c → All (λ (l : Literal). l.var ≤ vars) c
-step_within vars steps k c within is =
-    let (s, at, same) = step_at (λ (s : Step). s.literals) (slice_get steps k) c is in
-    subst (All (λ (l : Literal). l.var ≤ vars)) same (holds_at (λ (t : Step). All (λ (l : Literal). l.var ≤ vars) t.literals) steps k s within at)
-
 -- literals that ascend stand below the one at a place
-ascend_below : (var : ℕ) (ls : List Literal) (i : ℕ) (x : Literal) → AscendAbove var ls → slice_get ls i ≡ Some x → (var < x.var) × AllByRecursion (λ (l : Literal). l.var < x.var) (take i ls)
+pub ascend_below : (var : ℕ) (ls : List Literal) (i : ℕ) (x : Literal) → AscendAbove var ls → slice_get ls i ≡ Some x → (var < x.var) × AllByRecursion (λ (l : Literal). l.var < x.var) (take i ls)
 ascend_below var [] i x h at = let never : ⊥ = cc in absurd never
 ascend_below var (l ∷ ls) zero x h at = let same : l ≡ x = cc in (subst (λ (m : Literal). var < m.var) same h.0, tt)
 ascend_below var (l ∷ ls) (suc i) x h at =

@@ -2,7 +2,6 @@
 use Rattle.std.proofs.Common.{◌≡◌, ℕ, suc, ◌+◌, ◌-◌, ◌<◌, List, [], ◌∷◌, ◌++◌, length, drop, get_or, true, Some, sym, ◌∙◌, ap, subst, inl, inr, arith, drop-cons, length-drop}
 use Rattle.std.proofs.Math.ListN.{drop_of_length-le}
 use Rattle.std.proofs.lemmas.Bool.{eqb-true, eq-eqb}
-use Rattle.std.specs.List.{AllByRecursion}
 use Rattle.std.specs.Prelude.{◌↔◌, slice_get, nat_eq}
 use Rattle.bx_cnf.specs.Literals.{Literal}
 use Rattle.bx_cnf.specs.Assignments.{IsClauseFalse, LeavesOne}

@@ -1,7 +1,9 @@
 pub mod Sound
-pub mod Values
+pub mod Taking
 pub mod Lefts
 pub mod Leads
 pub mod Clauses
 pub mod Steps
 pub mod Passing
+pub mod Valuing
+pub mod Borders

@@ -1,18 +1,17 @@
 -- Steps that pass, one after the other, and the first that fails.
-use Rattle.std.proofs.Common.{◌≡◌, ℕ, zero, suc, ◌+◌, ◌<◌, ◌≤◌, Bool, true, false, List, [], ◌∷◌, length, get_or, take, Option, Some, None, refl, sym, ◌∙◌, ap, subst, inl, inr, arith, map}
+use Rattle.std.proofs.Common.{◌≡◌, ℕ, zero, suc, ◌+◌, ◌<◌, ◌≤◌, Bool, true, false, List, [], ◌∷◌, length, get_or, take, Option, Some, None, refl, sym, ◌∙◌, ap, subst, inl, inr, arith}
 use Rattle.std.proofs.Math.Seq.{take-nil}
 use Rattle.std.proofs.lemmas.Bool.{cases_eq, cases_lt}
 use Rattle.std.proofs.lemmas.List.{length-take-le}
 use Rattle.std.proofs.lemmas.Option.{slice_get_within, slice_get-get_or}
 use Rattle.std.specs.Prelude.{◌↔◌, not, slice_get, All}
-use Rattle.std.specs.Option.{option_map, is_some}
-use Rattle.bx_cnf.specs.Literals.{Literal, negated}
+use Rattle.std.specs.Option.{is_some}
+use Rattle.bx_cnf.specs.Literals.{Literal}
 use Rattle.bx_cnf.specs.Formulas.{Formula}
 use Rattle.bx_proof.specs.Steps.{Step, StepList}
-use Rattle.bx_proof.specs.Accepted.{LeadsToFalse, Follows, with_steps, IsAccepted}
-use Rattle.bx_check.specs.Passing.{Passes, PassUpTo, AllPass, IsFirstFailure, AreWithin, IsEnded}
+use Rattle.bx_proof.specs.Accepted.{Follows, with_steps, IsAccepted}
+use Rattle.bx_check.specs.Passing.{PassUpTo, AllPass, IsFirstFailure, AreWithin, IsEnded}
 use Rattle.bx_check.proofs.Lefts.{get_take, get_take_within}
-use Rattle.bx_check.proofs.Steps.{part_of}
 
 -- steps that pass are over the variables of the formula
 pub pass_within : (formula : Formula) (steps : List Step) (n : ℕ) → PassUpTo formula steps n → AreWithin formula.vars (take n steps)
@@ -21,40 +20,6 @@ pass_within formula steps n pass k x within =
     let at : slice_get (take n steps) k ≡ Some s = slice_get-get_or (take n steps) k x within in
     let lt : k < n = get_take_within steps n k s at in
     (pass k s lt (sym (get_take steps n k lt) ∙ at)).within
-
--- one step more passes
-pub pass_more : (formula : Formula) (steps : List Step) (n : ℕ) → PassUpTo formula steps n → ((s : Step) → slice_get steps n ≡ Some s → Passes formula (take n steps) s) → PassUpTo formula steps (n + 1)
-pass_more formula steps n pass here k s lt at =
-    elim (cases_eq k n) [
-      | inr ne ↦ pass k s (below ne) at
-      | inl same ↦ subst (λ j. Passes formula (take j steps) s) (sym same) (here s (ap (slice_get steps) (sym same) ∙ at))
-    ] where
-      below : (k ≡ n → ⊥) → k < n
-      below ne = omega arith
-
--- the check of one step says whether it passes
-pub passes_exact : (formula : Formula) (steps : List Step) (k : ℕ) (ls trues : List Literal) (r : Bool) → option_map (λ (s : Step). s.literals) (slice_get steps k) ≡ Some ls → All (λ (l : Literal). l.var ≤ formula.vars) ls → trues ≡ map negated ls → ((s : Step) → slice_get steps k ≡ Some s → (r ≡ true) ↔ LeadsToFalse (with_steps formula.clauses (take k steps)) trues s.hints) → (s : Step) → slice_get steps k ≡ Some s → (r ≡ true) ↔ Passes formula (take k steps) s
-passes_exact formula steps k ls trues r read within is exact s at =
-    let own : s.literals ≡ ls = part_of (λ (t : Step). t.literals) steps k s ls at read in
-    let same : trues ≡ map negated s.literals = is ∙ ap (map negated) (sym own) in
-    let leads : List Literal → Type 0 = λ ts. LeadsToFalse (with_steps formula.clauses (take k steps)) ts s.hints in (
-      λ yes. record { within = subst (All (λ (l : Literal). l.var ≤ formula.vars)) (sym own) within; follows = subst leads same ((exact s at).0 yes) },
-      λ passes. (exact s at).1 (subst leads (sym same) passes.follows),
-    )
-
--- a step over other variables fails
-pub passes_within : (formula : Formula) (steps : List Step) (k : ℕ) (ls : List Literal) → option_map (λ (s : Step). s.literals) (slice_get steps k) ≡ Some ls → (All (λ (l : Literal). l.var ≤ formula.vars) ls → ⊥) → (s : Step) → slice_get steps k ≡ Some s → (false ≡ true) ↔ Passes formula (take k steps) s
-passes_within formula steps k ls read not_within s at =
-    (λ wrong. let never : ⊥ = cc in absurd never, λ passes. absurd (not_within (subst (All (λ (l : Literal). l.var ≤ formula.vars)) (part_of (λ (t : Step). t.literals) steps k s ls at read) passes.within)))
-
--- the first failure, from those before it and the check of its step
-pub first_of : (formula : Formula) (steps : List Step) (k : ℕ) (s : Step) (r : Bool) → PassUpTo formula steps k → slice_get steps k ≡ Some s → (r ≡ true) ↔ Passes formula (take k steps) s → r ≡ false → IsFirstFailure formula steps k
-first_of formula steps k s r before at exact failed = record {
-  before = before;
-  step = s;
-  stands = at;
-  fails = λ passes. let e : false ≡ true = sym failed ∙ exact.1 passes in let never : ⊥ = cc in never;
-}
 
 -- of two first failures neither is before the other
 not_before : (formula : Formula) (steps : List Step) (j k : ℕ) → IsFirstFailure formula steps j → IsFirstFailure formula steps k → j < k → ⊥
@@ -112,10 +77,6 @@ accepted_of formula log some numbered ended = (
 
 pub all_pass : (formula : Formula) (steps : List Step) (n : ℕ) → length steps ≤ n → PassUpTo formula steps n → AllPass formula steps
 all_pass formula steps n le pass k s lt at = pass k s (omega (arith, lt)) at
-
-pub some_steps : (steps : List Step) → (steps ≡ [] → ⊥) → 0 < length steps
-some_steps [] some = absurd (some refl)
-some_steps (s ∷ ss) some = omega arith
 
 -- no failure is that all pass
 pub accepted_exact : (failure : Option ℕ) (r : Bool) (formula : Formula) (log : StepList) → is_some failure ≡ not r → (failure ≡ None) ↔ AllPass formula log.steps → AllPass formula log.steps ↔ IsAccepted formula log → (r ≡ true) ↔ IsAccepted formula log

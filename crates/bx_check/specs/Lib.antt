@@ -1,3 +1,4 @@
-pub mod Taken
+pub mod Valued
 pub mod Left
 pub mod Passing
+pub mod Chunks

@@ -1,50 +1,49 @@
 //! Literals that are taken to be true, with the value of each variable at hand. What was taken is kept
 //! in order, so that it can be given back at the price of what was taken.
-ghost use Rattle.std.specs.Prelude.{◌≡◌, ◌++◌, ◌<◌, ◌≤◌, ◌↔◌, [], ◌∷◌, IfOk, OnOk, IsTrue};
+ghost use Rattle.std.specs.Prelude.{◌≡◌, ◌++◌, ◌<◌, ◌↔◌, [], ◌∷◌, IfOk, OnOk, IsTrue};
 ghost use Rattle.bx_cnf.specs.Assignments.{IsFalse};
 
+use crate::values::Values;
 use bx_cnf::Lit;
 use bx_logic::NoMemory;
 use std::alloc::Global;
 use std::marker::Model;
 
-/// Literals of which no two contradict each other. Contracts see the number of variables and the list of
-/// the literals.
+/// Literals of which no two contradict each other. Contracts see the list of them.
 #[derive(Drop)]
 pub(crate) struct Assignment {
-    // the value of variable v stands at v - 1
-    values: Vec<Option<bool>>,
+    values: Values,
     taken: Vec<Lit>,
 }
 
 impl Model for Assignment {
-    ghost use Rattle.std.specs.Prelude.{length};
-    ghost use Rattle.bx_check.specs.Taken.{Taken, AreValues};
+    ghost use Rattle.std.specs.Prelude.{List};
+    ghost use Rattle.bx_cnf.specs.Literals.{Literal};
+    ghost use Rattle.bx_check.specs.Valued.{AreValues};
 
-    ghost Value = { Taken };
+    ghost Value = { List Literal };
 
-    ghost view = { λ a. record { vars = length a.values.items; trues = a.taken.items } };
+    ghost view = { λ a. a.taken.items };
 
-    ghost invariant = { λ a. AreValues a.values.items a.taken.items };
+    ghost invariant = { λ a. AreValues a.values a.taken.items };
 }
 
 impl Assignment {
-    /// No literal is taken.
-    pub(crate) fn new(alloc: Global, vars: u32) -> Result<Self, NoMemory>
-        ensures { IfOk result (λ a. a ≡ record { vars = vars; trues = [] }) }
+    /// No literal is taken. The values of so many variables stand in an array.
+    pub(crate) fn new(alloc: Global, count: u32) -> Result<Self, NoMemory>
+        ensures { IfOk result (λ a. a ≡ []) }
     {
         Ok(Assignment {
-            values: vec![in alloc; None; vars as usize]?,
+            values: Values::new(alloc, count)?,
             taken: Vec::new(alloc),
         })
     }
 
     /// Whether the negation of a literal is taken.
     pub(crate) fn is_false(&self, lit: Lit) -> bool
-        requires { lit.var ≤ self.now.vars }
-        ensures { IsTrue result ↔ IsFalse self.now.trues lit }
+        ensures { IsTrue result ↔ IsFalse self.now lit }
     {
-        match self.values[lit.var() as usize - 1] {
+        match self.values.get(lit.var()) {
             Some(value) => value != lit.is_positive(),
             None => false,
         }
@@ -52,21 +51,23 @@ impl Assignment {
 
     /// Takes a literal, whose negation isn't taken.
     pub(crate) fn take(&mut self, lit: Lit) -> Result<(), NoMemory>
-        requires within { lit.var ≤ self.old.vars }
-        requires consistent { IsFalse self.old.trues lit → ⊥ }
-        ensures { OnOk result (self.new ≡ record self.old { trues = self.old.trues ++ lit ∷ [] }) }
+        requires { IsFalse self.old lit → ⊥ }
+        ensures { OnOk result (self.new ≡ self.old ++ lit ∷ []) }
     {
         self.taken.push(lit)?;
-        self.values[lit.var() as usize - 1] = Some(lit.is_positive());
-        Ok(())
+        let room = self.values.set(lit.var(), lit.is_positive());
+        if room.is_err() {
+            self.taken.pop();
+        }
+        room
     }
 
     /// Gives all literals back.
     pub(crate) fn clear(&mut self)
-        ensures { self.new ≡ record self.old { trues = [] } }
+        ensures { self.new ≡ [] }
     {
         while let Some(lit) = self.taken.pop() {
-            self.values[lit.var() as usize - 1] = None;
+            self.values.unset(lit.var());
         }
     }
 }

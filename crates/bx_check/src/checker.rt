@@ -1,13 +1,15 @@
 //! The check of a log, step by step.
-ghost use Rattle.std.specs.Prelude.{◌≡◌, ◌+◌, ◌-◌, ◌++◌, ◌<◌, ◌≤◌, ◌↔◌, ℕ, List, [], ◌∷◌, Bool, map, take, length, slice_get, Some, None, IfOk, OnOk, IsTrue, All};
+ghost use Rattle.std.specs.Prelude.{◌≡◌, ◌+◌, ◌-◌, ◌++◌, ◌<◌, ◌≤◌, ◌↔◌, ℕ, List, [], ◌∷◌, Bool, map, take, length, slice_get, Some, None, IfOk, OnOk, MatchOption, IsTrue, All};
 ghost use Rattle.bx_cnf.specs.Literals.{negated};
 ghost use Rattle.bx_cnf.specs.Formulas.{AscendAbove, AllTrue};
 ghost use Rattle.bx_proof.specs.Steps.{Step};
 ghost use Rattle.bx_proof.specs.Accepted.{LeadsToFalse, with_steps, Follows, IsAccepted};
-ghost use Rattle.bx_check.specs.Passing.{AreWithin, IsEnded, Passes, AllPass, IsFirstFailure};
+ghost use Rattle.bx_check.specs.Chunks.{PassFrom, IsFailureFrom};
+ghost use Rattle.bx_check.specs.Passing.{IsEnded, Passes, AllPass, IsFirstFailure};
 
 use crate::assignment::Assignment;
 use crate::left::{Left, left_of};
+use crate::values::array_size;
 use bx_cnf::{Clauses, Lit};
 use bx_logic::NoMemory;
 use bx_proof::Steps;
@@ -42,8 +44,28 @@ pub fn first_failure(
         → (found ≡ Some k) ↔ IsFirstFailure clauses.now steps.now.steps k) }
     ensures pass { IfOk result (λ found. (found ≡ None) ↔ AllPass clauses.now steps.now.steps) }
 {
-    let mut assignment = Assignment::new(alloc, clauses.vars())?;
-    for k in 0..steps.len() {
+    let size = array_size(clauses, steps);
+    failure_between(alloc, clauses, steps, size, 0, steps.len())
+}
+
+/// The first step that fails of those from `from` to before `to`, or none where they pass. The values of so many
+/// variables stand in an array.
+pub(crate) fn failure_between(
+    alloc: Global,
+    clauses: &Clauses,
+    steps: &Steps,
+    size: u32,
+    from: u32,
+    to: u32,
+) -> Result<Option<u32>, NoMemory>
+    requires numbered { steps.now.first ≡ length clauses.now.clauses + 1 }
+    requires within { to ≤ length steps.now.steps }
+    ensures { IfOk result (λ found. MatchOption found
+        (PassFrom clauses.now steps.now.steps from to)
+        (λ k. (k < to) × IsFailureFrom clauses.now steps.now.steps from k)) }
+{
+    let mut assignment = Assignment::new(alloc, size)?;
+    for k in from..to {
         if !passes(clauses, steps, k, &mut assignment)? {
             return Ok(Some(k));
         }
@@ -55,12 +77,21 @@ pub fn first_failure(
 fn is_accepted(alloc: Global, clauses: &Clauses, steps: &Steps) -> Result<bool, NoMemory>
     ensures { IfOk result (λ yes. IsTrue yes ↔ IsAccepted clauses.now steps.now) }
 {
-    let numbered = u64::from(steps.first()) == u64::from(clauses.len()) + 1;
-    if steps.is_empty() || !numbered || !is_ended(steps) {
+    if !is_shaped(clauses, steps) {
         return Ok(false);
     }
     let failure = first_failure(alloc, clauses, steps)?;
     Ok(failure.is_none())
+}
+
+/// Whether there are steps, their ids go on behind those of the formula's clauses, and the last of them, and no other,
+/// has no literals.
+pub(crate) fn is_shaped(clauses: &Clauses, steps: &Steps) -> bool
+    ensures { IsTrue result ↔ (0 < length steps.now.steps)
+        × (steps.now.first ≡ length clauses.now.clauses + 1) × IsEnded steps.now.steps }
+{
+    let numbered = u64::from(steps.first()) == u64::from(clauses.len()) + 1;
+    !steps.is_empty() && numbered && is_ended(steps)
 }
 
 // Whether the last step, and no other, has no literals.
@@ -75,7 +106,7 @@ fn is_ended(steps: &Steps) -> bool
     true
 }
 
-// Whether step k passes, where those before it do. No literal is taken before or after.
+// Whether step k passes. No literal is taken before or after.
 fn passes(
     clauses: &Clauses,
     steps: &Steps,
@@ -84,8 +115,7 @@ fn passes(
 ) -> Result<bool, NoMemory>
     requires step { k < length steps.now.steps }
     requires numbered { steps.now.first ≡ length clauses.now.clauses + 1 }
-    requires within { AreWithin clauses.now.vars (take k steps.now.steps) }
-    requires fresh { assignment.old ≡ record { vars = clauses.now.vars; trues = [] } }
+    requires fresh { assignment.old ≡ [] }
     ensures exact { IfOk result (λ yes. (step : Step) → slice_get steps.now.steps k ≡ Some step
         → IsTrue yes ↔ Passes clauses.now (take k steps.now.steps) step) }
     ensures fresh { OnOk result (assignment.new ≡ assignment.old) }
@@ -110,10 +140,8 @@ fn is_within(literals: &[Lit], vars: u32) -> bool
 // Takes the negations of literals that ascend by variable.
 fn take_negations(literals: &[Lit], assignment: &mut Assignment) -> Result<(), NoMemory>
     requires ascending { AscendAbove 0 literals.now }
-    requires within { All (λ l. l.var ≤ assignment.old.vars) literals.now }
-    requires fresh { assignment.old.trues ≡ [] }
-    ensures { OnOk result (assignment.new
-        ≡ record assignment.old { trues = map negated literals.now }) }
+    requires fresh { assignment.old ≡ [] }
+    ensures { OnOk result (assignment.new ≡ map negated literals.now) }
 {
     for lit in literals {
         assignment.take(!*lit)?;
@@ -130,13 +158,10 @@ fn lead_to_false(
 ) -> Result<bool, NoMemory>
     requires step { k < length steps.now.steps }
     requires numbered { steps.now.first ≡ length clauses.now.clauses + 1 }
-    requires within { AreWithin clauses.now.vars (take k steps.now.steps) }
-    requires vars { assignment.old.vars ≡ clauses.now.vars }
-    ensures exact { IfOk result (λ yes. (step : Step) → slice_get steps.now.steps k ≡ Some step
+    ensures { IfOk result (λ yes. (step : Step) → slice_get steps.now.steps k ≡ Some step
         → IsTrue yes
         ↔ LeadsToFalse (with_steps clauses.now.clauses (take k steps.now.steps))
-        assignment.old.trues step.hints) }
-    ensures vars { OnOk result (assignment.new.vars ≡ assignment.old.vars) }
+        assignment.old step.hints) }
 {
     let hints = steps.hints(k);
     for (i, hint) in hints.iter().enumerate() {
@@ -154,12 +179,9 @@ fn clause_of<'a>(clauses: &'a Clauses, steps: &'a Steps, id: u32) -> &'a [Lit]
     requires numbered { steps.now.first ≡ length clauses.now.clauses + 1 }
     requires above { 0 < id }
     requires below { id ≤ length clauses.now.clauses + length steps.now.steps }
-    ensures value { (k : ℕ) → id ≤ length clauses.now.clauses + k → k ≤ length steps.now.steps
+    ensures { (k : ℕ) → id ≤ length clauses.now.clauses + k → k ≤ length steps.now.steps
         → slice_get (with_steps clauses.now.clauses (take k steps.now.steps)) (id - 1)
         ≡ Some result.now }
-    ensures within { (k : ℕ) → id ≤ length clauses.now.clauses + k
-        → AreWithin clauses.now.vars (take k steps.now.steps)
-        → All (λ l. l.var ≤ clauses.now.vars) result.now }
 {
     if id <= clauses.len() {
         clauses.clause(id)

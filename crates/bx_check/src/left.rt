@@ -1,5 +1,4 @@
 //! What propagation finds in a clause: how many of its literals aren't false, up to two.
-ghost use Rattle.std.specs.Prelude.{◌≤◌, All};
 ghost use Rattle.bx_check.specs.Left.{IsLeft};
 
 use crate::assignment::Assignment;
@@ -14,8 +13,7 @@ pub(crate) enum Left {
 
 /// How many literals of a clause aren't false.
 pub(crate) fn left_of(assignment: &Assignment, clause: &[Lit]) -> Left
-    requires { All (λ l. l.var ≤ assignment.now.vars) clause.now }
-    ensures { IsLeft assignment.now.trues clause.now result }
+    ensures { IsLeft assignment.now clause.now result }
 {
     let mut left = None;
     for lit in clause {

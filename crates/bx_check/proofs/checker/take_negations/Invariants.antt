@@ -3,7 +3,4 @@ use Rattle.bx_cnf.specs.Literals.{negated}
 use Rattle.bx_check.proofs.checker.take_negations.Given as goal
 
 abbrev pub invariant-loop-lit : goal.invariant-loop-lit
-invariant-loop-lit l = record {
-  vars : l.assignment.vars ≡ l.fn.assignment.vars;
-  trues : l.assignment.trues ≡ map negated (take l.lit-index l.literals);
-}
+invariant-loop-lit l = l.assignment ≡ map negated (take l.lit-index l.literals)

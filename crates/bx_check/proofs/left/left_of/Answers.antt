@@ -7,7 +7,7 @@ use Rattle.bx_check.proofs.left.left_of.Goals.{then-not-is_false+else-is_some, e
 
 pub returns-then-is_some : goal.returns-then-is_some
 returns-then-is_some c =
-    let trues = c.args.assignment.now.trues in
+    let trues = c.args.assignment.now in
     let clause = c.args.clause.now in
     let i = c.loop-lit.lit-index in
     let one = some_of c.loop-lit.left (IsClauseFalse trues (take i clause)) (λ x. LeavesOne trues (take i clause) x) c.loop-lit.invariant (sym c.is_some.ensures ∙ c.if-is_some.true) in
@@ -16,7 +16,7 @@ returns-then-is_some c =
 
 pub loop-lit-preserved : goal.loop-lit-preserved
 loop-lit-preserved c =
-    let trues = c.args.assignment.now.trues in
+    let trues = c.args.assignment.now in
     let clause = c.args.clause.now in
     let i = c.loop-lit.lit-index in
     elim c.if-not-is_false.branch [
@@ -34,7 +34,7 @@ loop-lit-preserved c =
 
 pub returns-in-None : goal.returns-in-None
 returns-in-None c =
-    let trues = c.args.assignment.now.trues in
+    let trues = c.args.assignment.now in
     let clause = c.args.clause.now in
     let i = c.loop-lit.lit-index in
     false_all trues clause i (omega arith) (subst (λ o. MatchOption o (IsClauseFalse trues (take i clause)) (λ x. LeavesOne trues (take i clause) x)) c.in-None.is c.loop-lit.invariant)

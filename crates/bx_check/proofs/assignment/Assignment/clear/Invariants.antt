@@ -1,9 +1,9 @@
 use Rattle.std.proofs.Common.{vec_len}
-use Rattle.bx_check.proofs.Values.{AreLeft}
+use Rattle.bx_check.proofs.Taking.{AreLeft}
 use Rattle.bx_check.proofs.assignment.Assignment.clear.Given as goal
 
 abbrev pub invariant-loop-lit : goal.invariant-loop-lit
-invariant-loop-lit l = AreLeft l.self-inside.values.items l.self-inside.taken.items l.fn.self.vars
+invariant-loop-lit l = AreLeft l.self-inside.values l.self-inside.taken.items
 
 abbrev pub decreases-loop-lit : goal.decreases-loop-lit
 decreases-loop-lit l = vec_len l.self-inside.taken

@@ -14,7 +14,7 @@ use std::{env, fs};
 fn main(rt: HostRuntime) -> ExitCode {
     let _standard = [null(&rt), null(&rt), null(&rt)];
     let status = match words(&rt) {
-        Ok(words) => run_sat(rt.alloc(), &words, &mut StdDesk::new(&rt)),
+        Ok(words) => run_sat(&rt, rt.alloc(), &words, &mut StdDesk::new(&rt)),
         Err(AllocError) => SatStatus::NoMemory,
     };
     ExitCode::from(status.code())

@@ -3,5 +3,5 @@ pub mod Writing
 pub mod Values
 pub mod ValueLines
 pub mod Stopping
-pub mod Budgets
+pub mod Numbers
 pub mod Found

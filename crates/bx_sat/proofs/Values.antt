@@ -1,11 +1,7 @@
 -- Values on lines, one after the other.
-use Rattle.std.proofs.Common.{◌≡◌, ℕ, suc, ◌+◌, ◌<◌, ◌≤◌, Bool, true, List, [], ◌∷◌, ◌++◌, length, drop, get_or, Result, Ok, sym, ◌∙◌, ap, subst, arith, length-append, drop-cons}
+use Rattle.std.proofs.Common.{◌≡◌, ℕ, suc, ◌+◌, ◌<◌, ◌≤◌, Bool, true, List, [], ◌∷◌, ◌++◌, length, drop, get_or, sym, ◌∙◌, ap, arith, length-append, drop-cons}
 use Rattle.std.proofs.Math.ListN.{drop_of_length-le}
 use Rattle.std.specs.Prelude.{decimal, nat_lt}
-use Rattle.bx_desk.specs.Desk.{DeskState}
-use Rattle.bx_desk.specs.Pieces.{pending, target_of, HandsOn, PutsOut}
-use Rattle.bx_desk.specs.declared.desk.Failed.{Failed}
-use Rattle.bx_desk.specs.declared.piece.Piece.{Piece}
 use Rattle.bx_says.specs.Texts.{Text}
 use Rattle.bx_sat.specs.Sayings.{sign_text, start_text, value_word, has_room, word_behind, column_behind, values_text}
 
@@ -27,11 +23,3 @@ values_turn bits column k d within =
 -- no value is left
 pub values_end : (bits : List Bool) (column k : ℕ) → length bits ≤ k → word_behind column (value_word 0 true) ++ 10 ∷ [] ≡ values_text column (k + 1) (drop k bits)
 values_end bits column k le = ap (values_text column (k + 1)) (sym (drop_of_length-le bits {i = k} le))
-
--- what was put out, whatever was answered beside it
-pub put_alone : {T : Type 0} (old new : DeskState) (r : Result T Failed) (x : T) (p0 p1 : Piece) (text : Text) → r ≡ Ok x → PutsOut old new r p0 p1 text → PutsOut {T = Unit {0}} old new (Ok tt) p0 p1 text
-put_alone {T} old new r x p0 p1 text ok puts = record {
-  hands_on = subst (λ (q : Result T Failed). HandsOn q (target_of p0) old new (pending p0 ++ text) (pending p1)) ok puts.hands_on;
-  target_stays = puts.target_stays;
-  can = puts.can;
-}

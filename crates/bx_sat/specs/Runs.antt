@@ -19,7 +19,7 @@ use Rattle.bx_sat.specs.Checking.{IsFinding}
 use Rattle.bx_sat.specs.Words.{Request, check, solve}
 
 abbrev pub usage_text : Text
-usage_text = codes "the words are check FORMULA PROOF or solve FORMULA BUDGET [PROOF]\n"
+usage_text = codes "the words are check FORMULA PROOF [--workers N] or solve FORMULA BUDGET [PROOF]\n"
 
 -- there is no answer: the text of the file of this name is stuck at a line, which is said; or the file can't be read, or
 -- memory was refused, and nothing is written or said
@@ -60,8 +60,9 @@ pub data EndsSolve (name : Text) (budget : ℕ) (proof : Option Text) (old new :
       → FailsToKeep old new answer proof → result ≡ Failed → EndsSolve name budget proof old new result
   no_formula : Unanswered None name old new result → EndsSolve name budget proof old new result
 
--- What is asked for is done, or said to be wrong; and where nothing is asked for, the usage is said.
+-- What is asked for is done, or said to be wrong; and where nothing is asked for, the usage is said. How many workers
+-- check a proof makes no difference.
 abbrev pub EndsRun : Option Request → DeskState → DeskState → SatStatus → Type 0
-EndsRun (Some (check formula proof)) old new result = EndsCheck formula proof old new result
+EndsRun (Some (check formula proof workers)) old new result = EndsCheck formula proof old new result
 EndsRun (Some (solve formula budget proof)) old new result = EndsSolve formula budget proof old new result
 EndsRun None old new result = EndsSaying old new Words usage_text result

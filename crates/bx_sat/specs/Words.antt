@@ -10,35 +10,53 @@ use Rattle.bx_says.specs.Texts.{Text}
 abbrev pub texts : {A : Type 0} → List (String A) → List Text
 texts words = map string_bytes words
 
--- check the proof in a file for the formula in another, or solve the formula within a budget, and write the proof that
--- it has no solution where there is a name for it
+-- check the proof in a file for the formula in another, with so many workers, or solve the formula within a budget, and
+-- write the proof that it has no solution where there is a name for it
 pub data Request : Type 0 where
-  check : (formula proof : Text) → Request
+  check : (formula proof : Text) (workers : ℕ) → Request
   solve : (formula : Text) (budget : ℕ) (proof : Option Text) → Request
 
--- a budget is one decimal digit or more, and below 2^64: leading zeros are taken, and signs aren't
-abbrev pub is_budget : Text → Bool
-is_budget word = list_all is_ascii_digit word && (nat_lt 0 (length word) && nat_lt (digits_value 10 word) (2 ^ 64))
+-- a number is one decimal digit or more, and below 2^64: leading zeros are taken, and signs aren't
+abbrev pub is_number : Text → Bool
+is_number word = list_all is_ascii_digit word && (nat_lt 0 (length word) && nat_lt (digits_value 10 word) (2 ^ 64))
 
-abbrev pub budget_of : Text → Option ℕ
-budget_of word = if is_budget word then Some (digits_value 10 word) else None
+abbrev pub number_of : Text → Option ℕ
+number_of word = if is_number word then Some (digits_value 10 word) else None
+
+-- from 1 to 16 workers
+abbrev pub is_workers : ℕ → Bool
+is_workers n = nat_lt 0 n && nat_lt n 17
+
+abbrev pub workers_of : Text → Option ℕ
+workers_of word = if is_number word && is_workers (digits_value 10 word) then Some (digits_value 10 word) else None
+
+-- so many, where the words don't say
+abbrev pub default_workers : ℕ
+default_workers = 4
 
 -- `check FORMULA PROOF` and `solve FORMULA BUDGET`
 abbrev pub of_three : Text → Text → Text → Option Request
 of_three verb formula third =
-    if bytes_eq verb (codes "check") then Some (check formula third)
-    else if bytes_eq verb (codes "solve") then option_map (λ budget. solve formula budget None) (budget_of third)
+    if bytes_eq verb (codes "check") then Some (check formula third default_workers)
+    else if bytes_eq verb (codes "solve") then option_map (λ budget. solve formula budget None) (number_of third)
     else None
 
 -- `solve FORMULA BUDGET PROOF`, where a proof isn't written over its formula
 abbrev pub of_four : Text → Text → Text → Text → Option Request
 of_four verb formula third proof =
     if bytes_eq verb (codes "solve") && not (bytes_eq formula proof)
-    then option_map (λ budget. solve formula budget (Some proof)) (budget_of third)
+    then option_map (λ budget. solve formula budget (Some proof)) (number_of third)
+    else None
+
+-- `check FORMULA PROOF --workers N`
+abbrev pub of_five : Text → Text → Text → Text → Text → Option Request
+of_five verb formula proof option workers =
+    if bytes_eq verb (codes "check") && bytes_eq option (codes "--workers") then option_map (check formula proof) (workers_of workers)
     else None
 
 -- other words ask for nothing
 abbrev pub request_of : List Text → Option Request
 request_of (verb ∷ formula ∷ third ∷ []) = of_three verb formula third
 request_of (verb ∷ formula ∷ third ∷ proof ∷ []) = of_four verb formula third proof
+request_of (verb ∷ formula ∷ proof ∷ option ∷ workers ∷ []) = of_five verb formula proof option workers
 request_of words = None

@@ -17,6 +17,7 @@ mod run;
 mod say;
 mod solving;
 mod status;
+mod workers;
 
 pub use checking::{Finding, verify};
 pub use run::run_sat;

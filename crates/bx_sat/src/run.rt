@@ -1,6 +1,6 @@
 //! The one call that the program makes: from its words to what is said, and a status.
 
-ghost use Rattle.std.specs.Prelude.{◌≡◌, ◌<◌, length, Option, IsSome, OnOk, OnErr};
+ghost use Rattle.std.specs.Prelude.{◌≡◌, ◌<◌, ◌≤◌, length, Option, IsSome, OnOk, OnErr};
 ghost use Rattle.bx_cnf.specs.Formulas.{Formula};
 ghost use Rattle.bx_desk.specs.Desk.{DeskState, Starts, Writes, WritesFront};
 ghost use Rattle.bx_proof.specs.Steps.{StepList};
@@ -20,18 +20,31 @@ use bx_desk::{Desk, Failed, Piece};
 use bx_logic::NoMemory;
 use bx_proof::{Steps, write_steps};
 use std::alloc::Global;
+use std::thread::Threads;
 
 // What is said where the words are no command.
-const USAGE: &[u8] = b"the words are check FORMULA PROOF or solve FORMULA BUDGET [PROOF]\n";
+const USAGE: &[u8] =
+    b"the words are check FORMULA PROOF [--workers N] or solve FORMULA BUDGET [PROOF]\n";
 
-/// Does what the words ask for: `check FORMULA PROOF` checks a proof, and `solve FORMULA BUDGET [PROOF]`
-/// solves a formula, and writes the proof where it has no solution. Where they ask for nothing it says what
-/// the words are.
-pub fn run_sat<D: Desk>(alloc: Global, words: &[String], desk: &mut D) -> SatStatus
+/// Does what the words ask for: `check FORMULA PROOF [--workers N]` checks a proof, and `solve FORMULA BUDGET
+/// [PROOF]` solves a formula, and writes the proof where it has no solution. Where they ask for nothing it says
+/// what the words are.
+pub fn run_sat<T: Threads + Sync, D: Desk>(
+    threads: &T,
+    alloc: Global,
+    words: &[String],
+    desk: &mut D,
+) -> SatStatus
     ensures { EndsRun (request_of (texts words.now)) (D.state desk.old) (D.state desk.new) result }
 {
     match Command::of_words(words) {
-        Some(Command::Check { formula, proof }) => check_files(alloc, formula, proof, desk),
+        Some(
+            Command::Check {
+                formula,
+                proof,
+                workers,
+            },
+        ) => check_files(threads, alloc, formula, proof, workers.number, desk),
         Some(
             Command::Solve {
                 formula,
@@ -43,8 +56,16 @@ pub fn run_sat<D: Desk>(alloc: Global, words: &[String], desk: &mut D) -> SatSta
     }
 }
 
-// Checks the proof of a formula.
-fn check_files<D: Desk>(alloc: Global, formula: &str, proof: &str, desk: &mut D) -> SatStatus
+// Checks the proof of a formula with so many workers.
+fn check_files<T: Threads + Sync, D: Desk>(
+    threads: &T,
+    alloc: Global,
+    formula: &str,
+    proof: &str,
+    workers: u32,
+    desk: &mut D,
+) -> SatStatus
+    requires { (1 ≤ workers) × (workers ≤ 16) }
     ensures { EndsCheck formula.now proof.now (D.state desk.old) (D.state desk.new) result }
 {
     let read = match load_formula(alloc, formula, desk) {
@@ -55,7 +76,7 @@ fn check_files<D: Desk>(alloc: Global, formula: &str, proof: &str, desk: &mut D)
         Ok(steps) => steps,
         Err(fault) => return say_unread(proof, fault, desk),
     };
-    match verify(alloc, &read.clauses, &steps) {
+    match verify(threads, alloc, &read.clauses, &steps, workers) {
         Ok(finding) => say_finding(finding, desk),
         Err(NoMemory) => SatStatus::NoMemory,
     }

@@ -1,15 +1,16 @@
 //! What a run says: a line, the line of the first step that fails or of the first bad line of a file, and
 //! the values of a solution. Each is said whole, or after a failure of the desk a front of it.
-ghost use Rattle.std.specs.Prelude.{List, Bool, ◌≡◌, ◌+◌, ◌≤◌, [], ◌∷◌, length, decimal, IfOk};
+ghost use Rattle.std.specs.Prelude.{List, Bool, ◌≡◌, ◌+◌, ◌≤◌, [], ◌∷◌, length, decimal};
 ghost use Rattle.bx_desk.specs.Desk.{CanPut};
 ghost use Rattle.bx_desk.specs.Pieces.{pending, target_of, IsToSay, PutsOut};
+ghost use Rattle.bx_desk.specs.Printing.{Prints};
 ghost use Rattle.bx_sat.specs.Answers.{finding_status, finding_text, answer_status, answer_text};
 ghost use Rattle.bx_sat.specs.Sayings.{EndsSaying, failure_text, bad_line_text, solution_text, sign_text, start_text, value_word, word_behind, column_behind};
 
 use crate::checking::Finding;
 use crate::solving::Answer;
 use crate::status::SatStatus;
-use bx_desk::{Desk, Failed, Piece};
+use bx_desk::{Desk, Failed, Piece, Printer};
 use bx_says::{Word, put_line};
 
 // The most bytes of a line of values, with the one that ends it.
@@ -112,41 +113,42 @@ fn put_solution<D: Desk>(bits: &[bool], piece: &mut Piece, desk: &mut D) -> Resu
     ensures { PutsOut
         (D.state desk.old) (D.state desk.new) result piece.old piece.new (solution_text bits.now) }
 {
-    piece.put(b"s SATISFIABLE\nv", desk)?;
-    let mut column = 1;
-    for (k, bit) in bits.iter().enumerate() {
-        column = put_value(k as u64 + 1, *bit, column, piece, desk)?;
-    }
-    put_value(0, true, column, piece, desk)?;
-    piece.put(b"\n", desk)
+    let mut printer = Printer::new(piece, desk);
+    print_solution(bits, &mut printer);
+    printer.outcome()
 }
 
-// Puts out a variable with its value behind so many bytes of a line, or on a line of its own where it has
-// no room there. Answers how many bytes the line has then.
-fn put_value<D: Desk>(
-    number: u64,
-    value: bool,
-    column: usize,
-    piece: &mut Piece,
-    desk: &mut D,
-) -> Result<usize, Failed>
-    requires can { CanPut (target_of piece.old) (D.state desk.old) }
-    requires column { column ≤ 78 }
-    ensures puts_out { PutsOut
-        (D.state desk.old) (D.state desk.new)
-        result piece.old piece.new (word_behind column (value_word number value)) }
-    ensures column { IfOk result (λ behind. (behind
-        ≡ column_behind column (value_word number value)) × (behind ≤ 78)) }
+// Likewise, through a printer.
+fn print_solution<D: Desk>(bits: &[bool], printer: &mut Printer<D>)
+    ensures { Prints printer.old printer.new (solution_text bits.now) }
+{
+    printer.bytes(b"s SATISFIABLE\nv");
+    let mut column = 1;
+    for (k, bit) in bits.iter().enumerate() {
+        column = print_value(k as u64 + 1, *bit, column, printer);
+    }
+    print_value(0, true, column, printer);
+    printer.end_line();
+}
+
+// Prints a variable with its value behind so many bytes of a line, or on a line of its own where it has no
+// room there. Answers how many bytes the line has then.
+fn print_value<D: Desk>(number: u64, value: bool, column: usize, printer: &mut Printer<D>) -> usize
+    requires { column ≤ 78 }
+    ensures prints { Prints printer.old printer.new
+        (word_behind column (value_word number value)) }
+    ensures column { result ≡ column_behind column (value_word number value) }
+    ensures short { result ≤ 78 }
 {
     let mut buffer = itoa::Buffer::new();
     let digits = buffer.format(number).as_bytes();
     let sign = sign_of(value);
     let width = sign.len() + digits.len();
     let fits = column + width < LINE;
-    piece.put(start_of(fits), desk)?;
-    piece.put(sign, desk)?;
-    piece.put(digits, desk)?;
-    Ok(if fits { column + width } else { 1 + width })
+    printer.bytes(start_of(fits));
+    printer.bytes(sign);
+    printer.bytes(digits);
+    if fits { column + width } else { 1 + width }
 }
 
 // What stands in front of a variable: a space, and the sign of a value that is false.

@@ -8,6 +8,7 @@ use bx_sat::{SatStatus, run_sat};
 use std::alloc::Global;
 use std::process::Abort;
 use std::test::Fail;
+use std::thread::Threads;
 
 // Words as the program hands them on.
 fn words(alloc: Global, line: &str) -> Result<Vec<String>, NoMemory> {
@@ -28,14 +29,19 @@ fn desk_with(alloc: Global, formula: &str) -> Result<MemDesk, NoMemory> {
 }
 
 // The exit status of a run.
-fn run(alloc: Global, desk: &mut MemDesk, line: &str) -> Result<u8, Fail> {
+fn run<R: Threads + Sync>(
+    rt: &R,
+    alloc: Global,
+    desk: &mut MemDesk,
+    line: &str,
+) -> Result<u8, Fail> {
     let words = words(alloc, line)?;
-    Ok(run_sat(alloc, &words, desk).code())
+    Ok(run_sat(rt, alloc, &words, desk).code())
 }
 
 // A run ends with this status, and this is said until then; `of` is what it is tried on.
-fn ends(
-    rt: &impl Abort,
+fn ends<R: Threads + Abort + Sync>(
+    rt: &R,
     alloc: Global,
     of: &str,
     desk: MemDesk,
@@ -44,7 +50,7 @@ fn ends(
     said: &str,
 ) -> Result<(), Fail> {
     let mut desk = desk;
-    is_status(rt, of, run(alloc, &mut desk, line)?, status);
+    is_status(rt, of, run(rt, alloc, &mut desk, line)?, status);
     is_said(rt, of, desk.said(), said);
     Ok(())
 }
@@ -87,7 +93,7 @@ const REFUTED: &[&str] = &[PIGEONS, PARITY, TWO_COLOURS, WIRE, SQUARE];
 fn what_is_refuted_is_verified(rt: HostRuntime) -> Result<(), Fail> {
     for &formula in REFUTED {
         let mut desk = desk_with(rt.alloc(), formula)?;
-        let status = run(rt.alloc(), &mut desk, "solve f.cnf 100000 p.lrat")?;
+        let status = run(&rt, rt.alloc(), &mut desk, "solve f.cnf 100000 p.lrat")?;
         is_status(&rt, formula, status, 20);
         verifies(&rt, rt.alloc(), formula, desk)?;
     }
@@ -95,7 +101,12 @@ fn what_is_refuted_is_verified(rt: HostRuntime) -> Result<(), Fail> {
 }
 
 // The proof that was written is accepted.
-fn verifies(rt: &impl Abort, alloc: Global, formula: &str, desk: MemDesk) -> Result<(), Fail> {
+fn verifies<R: Threads + Abort + Sync>(
+    rt: &R,
+    alloc: Global,
+    formula: &str,
+    desk: MemDesk,
+) -> Result<(), Fail> {
     let said = "s UNSATISFIABLE\ns VERIFIED\n";
     ends(rt, alloc, formula, desk, "check f.cnf p.lrat", 0, said)
 }
@@ -175,17 +186,36 @@ const CHECKED: &[(&str, u8, &str)] = &[
 #[test]
 fn a_proof_is_checked(rt: HostRuntime) -> Result<(), Fail> {
     for &(proof, status, said) in CHECKED {
-        let mut desk = desk_with(rt.alloc(), SQUARE)?;
-        desk.put("p.lrat", proof.as_bytes())?;
-        ends(
-            &rt,
-            rt.alloc(),
-            proof,
-            desk,
-            "check f.cnf p.lrat",
-            status,
-            said,
-        )?;
+        checks(&rt, rt.alloc(), proof, "check f.cnf p.lrat", status, said)?;
+    }
+    Ok(())
+}
+
+// A check of a proof of that formula ends so, by the words of this line.
+fn checks<R: Threads + Abort + Sync>(
+    rt: &R,
+    alloc: Global,
+    proof: &str,
+    line: &str,
+    status: u8,
+    said: &str,
+) -> Result<(), Fail> {
+    let mut desk = desk_with(alloc, SQUARE)?;
+    desk.put("p.lrat", proof.as_bytes())?;
+    ends(rt, alloc, proof, desk, line, status, said)
+}
+
+// How many workers may check a proof, as words have it.
+const WORKERS: &[&str] = &["1", "2", "3", "4", "16", "0016"];
+
+// The answer is the same for any number of workers.
+#[test]
+fn a_proof_is_checked_by_any_number_of_workers(rt: HostRuntime) -> Result<(), Fail> {
+    for &(proof, status, said) in CHECKED {
+        for &workers in WORKERS {
+            let line = format!(in rt.alloc(); "check f.cnf p.lrat --workers {workers}")?;
+            checks(&rt, rt.alloc(), proof, line.as_str(), status, said)?;
+        }
     }
     Ok(())
 }
@@ -206,6 +236,19 @@ const FAILING: &[(&str, u8)] = &[
     ("", 6),
     ("check f.cnf", 6),
     ("check f.cnf p.lrat more", 6),
+    ("check f.cnf p.lrat --workers", 6),
+    ("check f.cnf p.lrat --workers 0", 6),
+    ("check f.cnf p.lrat --workers 17", 6),
+    ("check f.cnf p.lrat --workers +4", 6),
+    ("check f.cnf p.lrat --workers four", 6),
+    ("check f.cnf p.lrat --workers 18446744073709551616", 6),
+    ("check f.cnf p.lrat --workers 4 4", 6),
+    ("check f.cnf p.lrat --workers=4", 6),
+    ("check f.cnf p.lrat --worker 4", 6),
+    ("check f.cnf p.lrat workers 4", 6),
+    ("check --workers 4 f.cnf p.lrat", 6),
+    ("check f.cnf --workers 4", 6),
+    ("solve f.cnf 10 p.lrat --workers 4", 6),
     ("solve f.cnf", 6),
     ("solve f.cnf ten", 6),
     ("solve f.cnf +10", 6),
@@ -214,13 +257,14 @@ const FAILING: &[(&str, u8)] = &[
     ("solve f.cnf 10 f.cnf", 6),
     ("solve none.cnf 10", 4),
     ("check f.cnf none.lrat", 4),
+    ("check f.cnf none.lrat --workers 4", 4),
     ("solve f.cnf 1000 none/p.lrat", 4),
 ];
 
 // Words that are no command say what the words are.
 #[test]
 fn the_usage_is_said(rt: HostRuntime) -> Result<(), Fail> {
-    let said = "the words are check FORMULA PROOF or solve FORMULA BUDGET [PROOF]\n";
+    let said = "the words are check FORMULA PROOF [--workers N] or solve FORMULA BUDGET [PROOF]\n";
     let desk = desk_with(rt.alloc(), SQUARE)?;
     ends(&rt, rt.alloc(), "usage", desk, "prove f.cnf", 6, said)
 }
@@ -230,7 +274,7 @@ fn the_usage_is_said(rt: HostRuntime) -> Result<(), Fail> {
 fn what_goes_wrong_has_its_status(rt: HostRuntime) -> Result<(), Fail> {
     for &(line, status) in FAILING {
         let mut desk = desk_with(rt.alloc(), TWO_COLOURS)?;
-        is_status(&rt, line, run(rt.alloc(), &mut desk, line)?, status);
+        is_status(&rt, line, run(&rt, rt.alloc(), &mut desk, line)?, status);
         is_so(&rt, line, desk.said().is_empty(), status == 4);
     }
     Ok(())
@@ -244,7 +288,7 @@ fn a_desk_that_fails_has_its_status(rt: HostRuntime) -> Result<(), Fail> {
     for &call in CALLS {
         let mut desk = desk_with(rt.alloc(), TWO_COLOURS)?;
         desk.fail_at(call, 3)?;
-        let status = run(rt.alloc(), &mut desk, "solve f.cnf 1000 p.lrat")?;
+        let status = run(&rt, rt.alloc(), &mut desk, "solve f.cnf 1000 p.lrat")?;
         is_status(&rt, "a desk that fails", status, 4);
     }
     Ok(())

@@ -20,9 +20,11 @@ use Rattle.bx_refutes.proofs.Lacking.{lacks}
 use Rattle.bx_refutes.specs.Refutations.{IsRefutedBy}
 use Rattle.bx_search.proofs.Accepting.{log-accepted}
 use Rattle.bx_search.proofs.Values.{search-solves}
-use Rattle.bx_verdict.specs.Verdicts.{IsEndOf, IsVerdict, Shows}
+use Rattle.bx_verdict.specs.Verdicts.{EndsAfter, IfEnded, IsEndOf, IsVerdict, Shows}
 use Rattle.bx_verdict.specs.declared.verdict.Ended.{Ended}
 use Rattle.bx_verdict.specs.declared.verdict.Ended.TheVariants.{Refuted, Found, Undecided}
+use Rattle.bx_verdict.specs.declared.verdict.Trial.{Trial}
+use Rattle.bx_verdict.specs.declared.verdict.Trial.TheVariants as trial
 
 module _ (N : Network) (permit : PermitTest) (r : Ratio) where
   pub verdict-refutes : (budget : ℕ) (proof : Refutation) → IsFormula (formula N permit r) → IsVerdict N permit r budget (Refuted proof) → IsRefutedBy N permit r proof
@@ -57,13 +59,17 @@ module _ (N : Network) (permit : PermitTest) (r : Ratio) where
   ended-is budget (Undecided spent) none ends = (none, ends)
 
   module _ (budget : ℕ) (f : Formula) (same : f ≡ formula N permit r) (none : IsFirst (Refutes N r) None) where
-    moved : (end : Ended) → IsEndOf f budget end → IsVerdict N permit r budget end
-    moved end ends = ended-is budget end none (subst (λ (g : Formula). IsEndOf g budget end) same ends)
+    ends : (end : Ended) (n : ℕ) → EndsAfter f budget end n → IsEndOf f budget end
+    ends (Refuted (Count c)) n found = found
+    ends (Refuted (Clauses steps)) n found = (n, found)
+    ends (Found bits) n found = (n, found)
+    ends (Undecided spent) n found = (n, found)
 
-    pub answer-is : {E : Type 0} (answer : Result Ended E) → IfOk answer (IsEndOf f budget) → IfOk answer (IsVerdict N permit r budget)
-    answer-is (Ok end) ends = moved end ends
-    answer-is (Err e) ends = tt
+    moved : (end : Ended) (n : ℕ) → EndsAfter f budget end n → IsVerdict N permit r budget end
+    moved end n found = ended-is budget end none (subst (λ (g : Formula). IsEndOf g budget end) same (ends end n found))
 
-    pub answer-shows : {E : Type 0} (answer : Result Ended E) → IsNetwork N → IsFormula f → IfOk answer (IsEndOf f budget) → IfOk answer (Shows N permit r)
-    answer-shows (Ok end) network formed ends = verdict-shows network budget end (subst IsFormula same formed) (moved end ends)
-    answer-shows (Err e) network formed ends = tt
+    pub answer-shows : {E : Type 0} (answer : Result Trial E) → IsNetwork N → IsFormula f → (Asked : ℕ → Type 0)
+        → IfOk answer (λ t. IfEnded t (λ end. (n : ℕ) × EndsAfter f budget end n × Asked n)) → IfOk answer (λ t. IfEnded t (Shows N permit r))
+    answer-shows (Ok (trial.Ended end)) network formed Asked (n, found, asked) = verdict-shows network budget end (subst IsFormula same formed) (moved end n found)
+    answer-shows (Ok trial.Stopped) network formed Asked given = tt
+    answer-shows (Err e) network formed Asked given = tt

@@ -12,7 +12,7 @@ use Rattle.bx_proof.specs.declared.refutation.Refutation.TheVariants.{Count, Cla
 use Rattle.bx_search.specs.declared.outcome.Outcome.{Outcome}
 use Rattle.bx_search.specs.declared.outcome.Outcome.TheVariants as outcome
 use Rattle.bx_search.proofs.OneEnd.{one-end}
-use Rattle.bx_verdict.specs.Verdicts.{EndsWith, IsVerdict}
+use Rattle.bx_verdict.specs.Verdicts.{Asks, EndsWith, IsVerdict}
 use Rattle.bx_verdict.specs.declared.verdict.Ended.{Ended}
 use Rattle.bx_verdict.specs.declared.verdict.Ended.TheVariants.{Refuted, Found, Undecided}
 
@@ -60,3 +60,9 @@ module _ (N : Network) (permit : PermitTest) (r : Ratio) (budget : ℕ) where
     | inl counted ↦ elim (parted other b) [ inl more ↦ one-counted one other counted more | inr ended ↦ absurd (not-both one other counted ended) ]
     | inr ended ↦ elim (parted other b) [ inl counted ↦ absurd (not-both other one counted ended) | inr more ↦ one-ended one other ended more ]
   ]
+
+  pub one-count : (end : Ended) (one other : ℕ) → Asks N permit r budget end one → Asks N permit r budget end other → one ≡ other
+  one-count (Refuted (Count c)) one other a b = a ∙ sym b
+  one-count (Refuted (Clauses steps)) one other a b = (one-end (formula N permit r) budget one other (outcome.Unsat steps) (outcome.Unsat steps) a b).1
+  one-count (Found bits) one other a b = (one-end (formula N permit r) budget one other (outcome.Sat bits) (outcome.Sat bits) a b).1
+  one-count (Undecided spent) one other a b = (one-end (formula N permit r) budget one other (outcome.Undecided spent) (outcome.Undecided spent) a b).1

@@ -1,6 +1,6 @@
 -- The verdict of a ratio: the first count proof that refutes it, where there is one, and otherwise how the search of
 -- its formula ends.
-use Rattle.std.specs.Prelude.{ℕ, Some, None, ⊤}
+use Rattle.std.specs.Prelude.{◌≡◌, ℕ, Some, None, ⊤}
 use Rattle.bx_bounds.specs.Precedes.{IsFirst}
 use Rattle.bx_bounds.specs.Refutes.{Refutes}
 use Rattle.bx_cnf.specs.Formulas.{Formula}
@@ -17,6 +17,8 @@ use Rattle.bx_search.specs.declared.outcome.Outcome.{Outcome}
 use Rattle.bx_search.specs.declared.outcome.Outcome.TheVariants as outcome
 use Rattle.bx_verdict.specs.declared.verdict.Ended.{Ended}
 use Rattle.bx_verdict.specs.declared.verdict.Ended.TheVariants.{Refuted, Found, Undecided}
+use Rattle.bx_verdict.specs.declared.verdict.Trial.{Trial}
+use Rattle.bx_verdict.specs.declared.verdict.Trial.TheVariants as trial
 
 -- the search of the formula within the budget ends so, however many clauses it learns
 abbrev pub EndsWith : Formula → ℕ → Outcome → Type 0
@@ -39,6 +41,25 @@ module _ (N : Network) (permit : PermitTest) (r : Ratio) (budget : ℕ) where
   IsVerdict (Refuted (Clauses steps)) = IsSearched (Refuted (Clauses steps))
   IsVerdict (Found bits) = IsSearched (Found bits)
   IsVerdict (Undecided spent) = IsSearched (Undecided spent)
+
+-- the search of the formula within the budget ends so, and has learned so many clauses that aren't empty
+abbrev pub EndsAfter : Formula → ℕ → Ended → ℕ → Type 0
+EndsAfter f budget (Refuted (Count proof)) n = ⊥
+EndsAfter f budget (Refuted (Clauses steps)) n = IsSearch f budget (outcome.Unsat steps) n
+EndsAfter f budget (Found bits) n = IsSearch f budget (outcome.Sat bits) n
+EndsAfter f budget (Undecided spent) n = IsSearch f budget (outcome.Undecided spent) n
+
+-- how often a verdict's search asks whether it is still wanted: once for each such clause; a count has no search
+abbrev pub Asks : Network → PermitTest → Ratio → ℕ → Ended → ℕ → Type 0
+Asks N permit r budget (Refuted (Count proof)) n = n ≡ 0
+Asks N permit r budget (Refuted (Clauses steps)) n = EndsAfter (formula N permit r) budget (Refuted (Clauses steps)) n
+Asks N permit r budget (Found bits) n = EndsAfter (formula N permit r) budget (Found bits) n
+Asks N permit r budget (Undecided spent) n = EndsAfter (formula N permit r) budget (Undecided spent) n
+
+-- so it is with the end of a trial, unless it was stopped
+abbrev pub IfEnded : Trial → (Ended → Type 0) → Type 0
+IfEnded (trial.Ended end) Is = Is end
+IfEnded trial.Stopped Is = ⊤
 
 -- what an end shows of its ratio: one that is refuted is so by its refutation, and has no legal layout; the bits of
 -- one that is found are true

@@ -13,7 +13,7 @@ ghost use Rattle.bx_network.specs.Networks.{Network, IsNetwork};
 ghost use Rattle.bx_proof.specs.declared.refutation.Refutation.{Refutation};
 ghost use Rattle.bx_refutes.specs.Refutations.{IsRefutedBy};
 ghost use Rattle.bx_verdict.specs.Settling.{AreSettled};
-ghost use Rattle.bx_verdict.specs.Verdicts.{IsVerdict};
+ghost use Rattle.bx_verdict.specs.Verdicts.{Asks, IsVerdict};
 ghost use Rattle.bx_verdict.specs.declared.settled.Last.{Last};
 ghost use Rattle.bx_verdict.specs.declared.verdict.Ended.{Ended};
 ghost use Rattle.bx_verdict.specs.declared.verdict.Ended.TheVariants.{Refuted, Found};
@@ -41,6 +41,12 @@ pub fn found_bits_mean_a_legal_layout()
 pub fn a_ratio_has_one_verdict()
     ensures { (N : Network) (permit : PermitTest) (r : Ratio) (budget : ℕ) (one other : Ended)
         → IsVerdict N permit r budget one → IsVerdict N permit r budget other → one ≡ other }
+{}
+
+/// The search of a verdict asks so often whether it is wanted, and no other number of times.
+pub fn a_verdict_asks_so_often()
+    ensures { (N : Network) (permit : PermitTest) (r : Ratio) (budget : ℕ) (end : Ended) (one other : ℕ)
+        → Asks N permit r budget end one → Asks N permit r budget end other → one ≡ other }
 {}
 
 /// So much is known of ratios in order, and no other refutations and no other end.

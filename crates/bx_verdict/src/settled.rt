@@ -1,17 +1,20 @@
 //! What is known of ratios in their order, and who finds it out: one ratio after the other, up to the first that
 //! isn't refuted.
 ghost use Rattle.std.specs.Prelude.{◌≤◌, length, IfOk};
+ghost use Rattle.bx_grid.specs.Tiles.{tile_count, IsGrid};
 ghost use Rattle.bx_layout.specs.Permits.{test_of};
 ghost use Rattle.bx_verdict.specs.Settling.{AreInOrder, AreSettled, ShowInOrder};
+ghost use Rattle.bx_verdict.specs.Verdicts.{IsVerdict, Shows};
 
-use crate::verdict::{Ended, MOST_SEARCH_BUDGET, judge};
+use crate::verdict::{Ended, MOST_SEARCH_BUDGET, Trial, judge};
 use bx_cnf::Bits;
-use bx_encode::MOST_NODES;
-use bx_grid::Ratios;
+use bx_encode::{MOST_AREA, MOST_NODES};
+use bx_grid::{Ratio, Ratios};
 use bx_layout::Permit;
 use bx_logic::NoMemory;
 use bx_network::MappedNet;
 use bx_proof::Refutation;
+use bx_search::Steady;
 use std::alloc::Global;
 
 /// What is known of ratios in their order.
@@ -59,7 +62,7 @@ pub fn settle(
     let mut refutations = Vec::new(alloc);
     for k in 0..ratios.len() {
         let ratio = ratios.at(k);
-        let last = match judge(alloc, net, permit, ratio, budget)? {
+        let last = match judge_to_the_end(alloc, net, permit, ratio, budget)? {
             Ended::Refuted(proof) => {
                 refutations.push(proof)?;
                 continue;
@@ -73,4 +76,27 @@ pub fn settle(
         refutations,
         last: Last::NoneWithin,
     })
+}
+
+// The verdict of a ratio. No pulse stops it: one that says yes as often as 64 bits count is asked once for each
+// learned clause, and so for each of which the budget pays.
+fn judge_to_the_end(
+    alloc: Global,
+    net: &MappedNet,
+    permit: &Permit,
+    ratio: Ratio,
+    budget: u64,
+) -> Result<Ended, NoMemory>
+    requires grid { IsGrid ratio }
+    requires nodes { length net.now.nodes ≤ MOST_NODES }
+    requires area { tile_count ratio ≤ MOST_AREA }
+    requires budget { budget ≤ MOST_SEARCH_BUDGET }
+    ensures exact { IfOk result (IsVerdict net.now (test_of permit.now) ratio budget) }
+    ensures shows { IfOk result (Shows net.now (test_of permit.now) ratio) }
+{
+    let mut pulse = Steady::new();
+    match judge(alloc, net, permit, ratio, budget, &mut pulse)? {
+        Trial::Ended(end) => Ok(end),
+        Trial::Stopped => unreachable!(),
+    }
 }

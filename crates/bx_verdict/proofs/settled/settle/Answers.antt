@@ -8,11 +8,11 @@ use Rattle.bx_verdict.proofs.InOrder.{in-order, known-more, settled, shown, at-e
 use Rattle.bx_verdict.proofs.settled.settle.Goals as goal
 use Rattle.bx_verdict.proofs.settled.settle.Goals.{in-Found, in-Undecided}
 
-pub judge-requires-clause-grid : goal.judge-requires-clause-grid
-judge-requires-clause-grid c = (in-order c.args.ratios.now c.loop-k.k c.at-ratio.result c.requires.order c.at-ratio.ensures).0
+pub judge_to_the_end-requires-clause-grid : goal.judge_to_the_end-requires-clause-grid
+judge_to_the_end-requires-clause-grid c = (in-order c.args.ratios.now c.loop-k.k c.at-ratio.result c.requires.order c.at-ratio.ensures).0
 
-pub judge-requires-clause-area : goal.judge-requires-clause-area
-judge-requires-clause-area c = (in-order c.args.ratios.now c.loop-k.k c.at-ratio.result c.requires.order c.at-ratio.ensures).1
+pub judge_to_the_end-requires-clause-area : goal.judge_to_the_end-requires-clause-area
+judge_to_the_end-requires-clause-area c = (in-order c.args.ratios.now c.loop-k.k c.at-ratio.result c.requires.order c.at-ratio.ensures).1
 
 pub loop-k-preserved : goal.loop-k-preserved
 loop-k-preserved c =

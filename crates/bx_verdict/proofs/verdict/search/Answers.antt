@@ -1,7 +1,18 @@
-use Rattle.bx_verdict.proofs.Stopping.{never-stops}
+-- The pulse is asked for what the budget pays, however the search ends.
+use Rattle.bx_verdict.proofs.Stopping.{few-asks}
 use Rattle.bx_verdict.proofs.verdict.search.Goals as goal
 
-pub unreachable-requires : goal.unreachable-requires
-unreachable-requires c =
-    never-stops c.args.clauses.now c.args.budget c.new-pulse.result c.solve.new.pulse c.requires.formed c.requires.budget c.new-pulse.ensures
-    (c.in_ok-bits.ensures.stopped c.in-Stopped.is) c.in_ok-bits.ensures.leads c.in_ok-bits.ensures.at_most
+pub returns-in_err-bits-clause-at_most : goal.returns-in_err-bits-clause-at_most
+returns-in_err-bits-clause-at_most g c = few-asks c.args.clauses.now c.args.budget _ _ c.requires.formed c.solve.ensures.at_most
+
+pub returns-in-Sat-clause-at_most : goal.returns-in-Sat-clause-at_most
+returns-in-Sat-clause-at_most g c = few-asks c.args.clauses.now c.args.budget _ _ c.requires.formed c.solve.ensures.at_most
+
+pub returns-in-Unsat-clause-at_most : goal.returns-in-Unsat-clause-at_most
+returns-in-Unsat-clause-at_most g c = few-asks c.args.clauses.now c.args.budget _ _ c.requires.formed c.solve.ensures.at_most
+
+pub returns-in-Undecided-clause-at_most : goal.returns-in-Undecided-clause-at_most
+returns-in-Undecided-clause-at_most g c = few-asks c.args.clauses.now c.args.budget _ _ c.requires.formed c.solve.ensures.at_most
+
+pub returns-in-Stopped-clause-at_most : goal.returns-in-Stopped-clause-at_most
+returns-in-Stopped-clause-at_most g c = few-asks c.args.clauses.now c.args.budget _ _ c.requires.formed c.solve.ensures.at_most

@@ -1,5 +1,5 @@
-//! From a network to its solution: the ratios are settled in their order, what refuted them becomes the certificate,
-//! and the bits of the one that was found are read as a layout.
+//! From a network to its solution: workers race its ratios, what refuted them becomes the certificate, and the bits of
+//! the one that was found are read as a layout.
 ghost use Rattle.std.specs.Prelude.{◌≤◌, length, IfOk};
 ghost use Rattle.bx_decode.specs.Meaning.{AreTrue, Means};
 ghost use Rattle.bx_design.specs.Making.{IsReadable};
@@ -15,31 +15,39 @@ use crate::solution::{LaidOut, Solution};
 use bx_cert::{Cert, CertLast, MOST_CERT_BUDGET};
 use bx_cnf::Bits;
 use bx_decode::decode;
+use bx_desk::Gate;
 use bx_encode::{MOST_AREA, MOST_NODES};
 use bx_grid::{Limits, Ratio, Ratios};
 use bx_layout::{Permit, form_grid};
 use bx_logic::NoMemory;
 use bx_network::MappedNet;
 use bx_proof::Refutation;
-use bx_verdict::{Last, Settled, settle};
+use bx_verdict::Last;
+use bx_workers::{Problem, Raced, race_all};
 use std::alloc::Global;
+use std::thread::Threads;
 
-/// The solution of a network within these limits: ratios are tried in their order, each within the budget, until one
-/// isn't refuted. One formula and its solver are held at a time.
+/// The solution of a network within these limits: so many workers race the ratios, each within the budget, for the
+/// first that isn't refuted. It doesn't depend on their number. The gate is told which ratio is tried. Each worker
+/// holds one formula and its solver at a time.
 ///
 /// # Errors
 ///
 /// `NoMemory` if memory is refused.
-pub fn find_design(
+pub fn find_design<T: Threads + Sync, G: Gate + Sync>(
+    threads: &T,
     alloc: Global,
     net: &MappedNet,
     permit: &Permit,
     limits: Limits,
     budget: u64,
+    workers: u32,
+    gate: &G,
 ) -> Result<Solution, NoMemory>
     requires nodes { length net.now.nodes ≤ MOST_NODES }
     requires limits { AreLimits limits }
     requires budget { budget ≤ MOST_CERT_BUDGET }
+    requires workers { (1 ≤ workers) × (workers ≤ 16) }
     ensures exact { IfOk result (λ s.
         IsSolution net.now (test_of permit.now) limits budget s.cert s.found) }
     ensures minimal { IfOk result (λ s.
@@ -48,7 +56,18 @@ pub fn find_design(
     // (known from here on: the net is a network)
     let _nodes = net.node_count();
     let ratios = Ratios::new(limits);
-    let Settled { refutations, last } = settle(alloc, net, permit, &ratios, budget)?;
+    let problem = Problem {
+        net,
+        permit,
+        ratios: &ratios,
+        budget,
+    };
+    let Raced {
+        refutations,
+        last,
+        ..
+    } = race_all(threads, alloc, &problem, workers, gate)?;
+    let refutations = refutations.into_vec();
     let told = tell(alloc, net, permit, &ratios, &refutations, last)?;
     let sections = make_sections(alloc, &ratios, refutations)?;
     let cert = Cert::new(limits, budget, sections, told.last);

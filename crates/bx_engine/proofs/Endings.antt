@@ -1,7 +1,7 @@
 -- A text that was put out through a new piece, and what the end of the piece hands on then: a file that was written,
 -- or an answer that was given.
-use Rattle.std.proofs.Common.{◌≡◌, ℕ, List, [], ◌++◌, Option, Result, Ok, Err, sym, ◌∙◌, subst, refl}
-use Rattle.std.specs.Prelude.{OnOk, OnErr, IsSome}
+use Rattle.std.proofs.Common.{◌≡◌, ℕ, List, [], ◌∷◌, ◌++◌, Option, Some, None, Result, Ok, Err, sym, ◌∙◌, subst, refl}
+use Rattle.std.specs.Prelude.{OnOk, OnErr, IfErr, IsSome}
 use Rattle.std.proofs.lemmas.List.{append-nil}
 use Rattle.bx_cert.specs.Certs.{Certificate}
 use Rattle.bx_design.specs.declared.solution.LaidOut.{LaidOut}
@@ -14,16 +14,20 @@ use Rattle.bx_desk.specs.declared.target.Target.TheVariants.{Output, File}
 use Rattle.bx_desk.proofs.Put.{puts_piece, puts_front}
 use Rattle.bx_logic.specs.Nets.{Netlist}
 use Rattle.bx_network.specs.Networks.{Network}
+use Rattle.bx_siqad.specs.Designs.{Drawing}
 use Rattle.bx_verilog.specs.Formulas.{Text}
 use Rattle.bx_engine.specs.declared.status.Status.{Status}
 use Rattle.bx_engine.specs.declared.status.Status.TheVariants.{WriteFault}
-use Rattle.bx_engine.specs.declared.status.Which.TheVariants.{CertFile, Output as OfOutput}
-use Rattle.bx_engine.specs.Answers.{Written, refusal, file_of, search_answer}
-use Rattle.bx_engine.specs.Effects.{WritesFile, FailsToWrite, cut_short, unwritten, unsaid}
+use Rattle.bx_engine.specs.declared.status.Which.{Which}
+use Rattle.bx_engine.specs.declared.status.Which.TheVariants.{DesignFile, CertFile, Output as OfOutput}
+use Rattle.bx_engine.specs.Answers.{Written, refusal, design_file, design_files, files_of, search_answer}
+use Rattle.bx_engine.specs.Effects.{WritesFile, FailsToWrite, WritesAll, FailsToWriteAll, cut_short, unwritten, unsaid}
 use Rattle.bx_engine.specs.Runs.{EndsSaying, done, failed}
 use Rattle.bx_engine.specs.Said.{search_text, refusal_text}
 use Rattle.bx_engine.specs.Statuses.{status_of}
 use Rattle.bx_engine.specs.Steps.{EndsGiving, given, ungiven}
+use Rattle.bx_engine.specs.Tasks.{Task}
+use Rattle.bx_engine.proofs.Effects.{all_then, fails_among}
 
 -- ---- through a piece
 
@@ -101,19 +105,42 @@ pub writes_started : {T : Type 0} (old begun new : DeskState) (file : Written) (
 writes_started old begun new file (Ok u) starts h = (record { begun = begun; starts = starts; writes = h.0 }, tt)
 writes_started old begun new file (Err e) starts h = (tt, cut_short begun starts h.1)
 
+-- ---- files, one after the other
+
+-- the design was written or not, if there is one
+pub found_written : {T : Type 0} (old new : DeskState) (name : Text) (design : Option Drawing) (drawing : Drawing) (r : Result T Failed) → design ≡ Some drawing
+    → OnOk r (WritesFile old new (design_file name drawing)) × OnErr r (FailsToWrite old new (design_file name drawing))
+    → OnOk r (WritesAll old new (design_files name design)) × OnErr r (FailsToWriteAll old new (design_files name design) DesignFile)
+found_written old new name design drawing (Ok u) is h = (subst (λ (o : Option Drawing). WritesAll old new (design_files name o)) (sym is) (new, h.0, refl), tt)
+found_written old new name design drawing (Err e) is h =
+    (tt, subst (λ (o : Option Drawing). FailsToWriteAll old new (design_files name o) DesignFile) (sym is) (fails_among old old new [] (design_file name drawing) DesignFile refl refl h.1))
+
+-- there is none, and nothing was done
+pub none_written : (desk : DeskState) (name : Text) (design : Option Drawing) → design ≡ None → WritesAll desk desk (design_files name design)
+none_written desk name design is = subst (λ (o : Option Drawing). WritesAll desk desk (design_files name o)) (sym is) refl
+
+-- the certificate was written or not behind it
+pub last_written : {T : Type 0} (old mid new : DeskState) (files : List Written) (file : Written) (r : Result T Which) → WritesAll old mid files → file.which ≡ CertFile
+    → OnOk r (WritesFile mid new file) × IfErr r (λ which. (which ≡ CertFile) × FailsToWrite mid new file)
+    → OnOk r (WritesAll old new (files ++ file ∷ [])) × IfErr r (FailsToWriteAll old new (files ++ file ∷ []))
+last_written old mid new files file (Ok u) written of h = (all_then old mid new files file written h.0, tt)
+last_written old mid new files file (Err which) written of h = (tt, fails_among old mid new files file which (h.1.0 ∙ sym of) written h.1.1)
+
 -- ---- what is given
 
 -- a refusal was said or not
 pub gives_refusal : (old new : DeskState) (status : Status) (text : Text) (result : Status) → EndsSaying old new status (refusal_text text) result → EndsGiving old new (refusal status text) result
-gives_refusal old new status text result (done says) = given (record { written = old; file = refl; said = says })
+gives_refusal old new status text result (done says) = given (record { written = old; files = refl; said = says })
 gives_refusal old new status text result (failed front) = ungiven OfOutput (unsaid old refl front)
 
-module _ (old mid new : DeskState) (name : Text) (net : Netlist) (N : Network) (cert : Certificate) (found : Option LaidOut) where
-  -- the certificate was written, and the report said or not
-  pub gives_solution : (result : Status) → WritesFile old mid (file_of name cert) → EndsSaying mid new (status_of cert.last) (search_text net N cert.last found) result → EndsGiving old new (search_answer name net N cert found) result
-  gives_solution result writes (done says) = given (record { written = mid; file = writes; said = says })
+module _ (old mid new : DeskState) (task : Task) (net : Netlist) (N : Network) (cert : Certificate) (found : Option LaidOut) (design : Option Drawing) where
+  -- the files were written, and the report said or not
+  pub gives_solution : (result : Status) → WritesAll old mid (files_of task design cert) → EndsSaying mid new (status_of cert.last) (search_text net N cert.last found) result
+      → EndsGiving old new (search_answer task net N cert found design) result
+  gives_solution result writes (done says) = given (record { written = mid; files = writes; said = says })
   gives_solution result writes (failed front) = ungiven OfOutput (unsaid mid writes front)
 
--- the certificate couldn't be written
-pub gives_no_file : (old new : DeskState) (name : Text) (net : Netlist) (N : Network) (cert : Certificate) (found : Option LaidOut) → FailsToWrite old new (file_of name cert) → EndsGiving old new (search_answer name net N cert found) (WriteFault CertFile)
-gives_no_file old new name net N cert found fails = ungiven CertFile (unwritten (file_of name cert) refl fails)
+-- one of them couldn't be written
+pub gives_no_file : (old new : DeskState) (task : Task) (net : Netlist) (N : Network) (cert : Certificate) (found : Option LaidOut) (design : Option Drawing) (which : Which)
+    → FailsToWriteAll old new (files_of task design cert) which → EndsGiving old new (search_answer task net N cert found design) (WriteFault which)
+gives_no_file old new task net N cert found design which fails = ungiven which (unwritten which fails)

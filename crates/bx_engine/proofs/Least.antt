@@ -4,13 +4,15 @@ use Rattle.std.specs.Prelude.{slice_get}
 use Rattle.std.proofs.lemmas.Bool.{cases_lt}
 use Rattle.std.proofs.lemmas.Option.{get_or_from_slice_get, slice_get-get_or, slice_get_within}
 use Rattle.bx_cert.specs.declared.parts.CertLast.{CertLast}
+use Rattle.bx_dots.specs.Permits.{permit_of}
 use Rattle.bx_grid.specs.Orders.{IsWithin, Precedes, order}
 use Rattle.bx_grid.specs.declared.ratio.Limits.{Limits}
 use Rattle.bx_grid.specs.declared.ratio.Ratio.{Ratio}
 use Rattle.bx_grid.proofs.Orders.{order_is_ascending, order_is_exact}
 use Rattle.bx_layout.specs.Legal.{IsLegal}
-use Rattle.bx_layout.specs.Permits.{all_forms}
+use Rattle.bx_layout.specs.Permits.{PermitTest}
 use Rattle.bx_layout.specs.declared.layout.Layout.{Layout}
+use Rattle.bx_library.specs.Tiles.{Tiles}
 use Rattle.bx_network.specs.Networks.{Network}
 use Rattle.bx_syntax.specs.Parts.{ModuleTree}
 use Rattle.bx_verilog.specs.Formulas.{Text}
@@ -51,18 +53,18 @@ module _ (limits : Limits) where
     ]
   ]
 
-module _ (task : Task) (N : Network) (bytes : Text) where
+module _ (task : Task) (N : Network) (permit : PermitTest) (bytes : Text) where
   -- a layout of a ratio before the one that a certificate ends with isn't legal
-  pub least-before : (last : CertLast) (ratio : Ratio) → IsEvidenceBefore task N bytes last ratio
-      → (L : Layout) → IsWithin task.limits L.ratio → Precedes L.ratio ratio → IsLegal N all_forms L → ⊥
+  pub least-before : (last : CertLast) (ratio : Ratio) → IsEvidenceBefore task N permit bytes last ratio
+      → (L : Layout) → IsWithin task.limits L.ratio → Precedes L.ratio ratio → IsLegal N permit L → ⊥
   least-before last ratio is L within precedes legal =
       let (i, here) = at-some task.limits L.ratio within in
       is.evidence.lacking i L.ratio (before task.limits (length is.evidence.cert.sections) i ratio L.ratio is.next here precedes) here L refl legal
 
 -- where there is none within the limits, none is legal
-pub least-none : (task : Task) (m : ModuleTree) (bytes said : Text) → IsNoneWithin task m bytes said
-    → (L : Layout) → IsWithin task.limits L.ratio → IsLegal (network_of m) all_forms L → ⊥
-least-none task m bytes said is L within legal =
+pub least-none : (task : Task) (m : ModuleTree) (lib : Tiles) (cert said : Text) → IsNoneWithin task m lib cert said
+    → (L : Layout) → IsWithin task.limits L.ratio → IsLegal (network_of m) (permit_of lib) L → ⊥
+least-none task m lib cert said is L within legal =
     let (i, here) = at-some task.limits L.ratio within in
     let low = slice_get_within (order task.limits) i L.ratio here in
     let all = is.all in

@@ -1,4 +1,5 @@
 pub mod Lines
+pub mod Effects
 pub mod Endings
 pub mod Networks
 pub mod Constants
@@ -7,12 +8,13 @@ pub mod Serving
 pub mod Tasks
 pub mod Readings
 pub mod EachText
+pub mod Drawings
+pub mod SomeDrawing
 pub mod Answers
-pub mod Existence
-pub mod Effects
 pub mod PlainNames
 pub mod Worth
 pub mod Least
+pub mod Existence
 pub mod Reported
 pub mod Clauses
 pub mod Refusals

@@ -1,10 +1,13 @@
--- From a text to its network, or to why there is none, from the fault of a lower reader.
+-- From a text to its network or its library, or to why there is none, from the fault of a lower reader.
 use Rattle.std.proofs.Common.{◌≡◌, ◌≤◌, length, Option, Result, Ok, Err, ap, ◌∙◌, sym, subst}
 use Rattle.std.specs.Prelude.{◌≢◌, IfErr}
 use Rattle.std.specs.Result.{IsErrAnd}
 use Rattle.bx_logic.specs.Nets.{Netlist}
 use Rattle.bx_desk.specs.Desk.{Files}
 use Rattle.bx_lex.specs.Tokens.{TokenList, HasTokens}
+use Rattle.bx_library.specs.Readings.{Reads}
+use Rattle.bx_library.specs.declared.fault.LibraryFault.{LibraryFault}
+use Rattle.bx_library.specs.declared.fault.LibraryFault.TheVariants as library
 use Rattle.bx_syntax.specs.declared.fault.ReadFault.{ReadFault}
 use Rattle.bx_syntax.specs.declared.fault.ReadFault.TheVariants as read
 use Rattle.bx_syntax.specs.Parts.{ModuleTree}
@@ -15,15 +18,15 @@ use Rattle.bx_verilog.specs.Formulas.{Text}
 use Rattle.bx_verilog.specs.Faults.{IsFault}
 use Rattle.bx_network.specs.Networks.{Network}
 use Rattle.bx_map.specs.Maps.{mapping_of}
-use Rattle.bx_engine.specs.declared.load.NoModule.{NoModule}
-use Rattle.bx_engine.specs.declared.load.NoModule.TheVariants.{Fault, Unread, NoMemory}
+use Rattle.bx_engine.specs.declared.load.NoInput.{NoInput}
+use Rattle.bx_engine.specs.declared.load.NoInput.TheVariants.{Fault, Unread, NoMemory}
 use Rattle.bx_engine.specs.declared.limits.TheConstants.{MODULE_NODES}
-use Rattle.bx_engine.specs.declared.status.InputFault.TheVariants.{TooLong, Lex, Read, Net, Constant, Nodes}
-use Rattle.bx_engine.specs.Runs.{read_end, net_end, HasNet, HasNetwork, HasModule, ReadsModule, NetEnds, TextEnds}
-use Rattle.bx_engine.specs.Texts.{IsShort, IsText, IsMapped, IsConstant, HasManyNodes}
+use Rattle.bx_engine.specs.declared.status.InputFault.TheVariants.{TooLong, Lex, Read, Net, Constant, Nodes, Library}
+use Rattle.bx_engine.specs.Runs.{read_end, net_end, library_end, LibraryEnds, HasNet, HasNetwork, HasModule, ReadsModule, NetEnds, TextEnds}
+use Rattle.bx_engine.specs.Texts.{IsShort, IsShortLibrary, IsText, IsMapped, IsConstant, HasManyNodes}
 
 -- an error that is the end of this fault
-pub ends_so : {T : Type 0} (text : Text) (r : Result T NoModule) (end : NoModule) → IsErrAnd r (λ e. e ≡ end) → TextEnds text end → IfErr r (TextEnds text)
+pub ends_so : {T : Type 0} (text : Text) (r : Result T NoInput) (end : NoInput) → IsErrAnd r (λ e. e ≡ end) → TextEnds text end → IfErr r (TextEnds text)
 ends_so text (Ok v) end h t = tt
 ends_so text (Err e) end h t = subst (TextEnds text) (sym h) t
 
@@ -43,13 +46,14 @@ module _ (text : Text) (short : IsShort text) where
   net_ends m nets.NoMemory is first = tt
 
 -- a net of the text that is not mapped
-pub refused-net : (text : Text) (net : Netlist) (end : NoModule) → HasNet text net → NetEnds net end → TextEnds text end
+pub refused-net : (text : Text) (net : Netlist) (end : NoInput) → HasNet text net → NetEnds net end → TextEnds text end
 refused-net text net (Fault (Constant name)) has is = (has.tree, has.good, subst (λ (n : Netlist). IsConstant n name) has.same is)
 refused-net text net (Fault (Nodes count)) has is = (has.tree, has.good, subst (λ (n : Netlist). HasManyNodes n count) has.same is)
 refused-net text net (Fault (TooLong which)) has is = absurd is
 refused-net text net (Fault (Lex fault)) has is = absurd is
 refused-net text net (Fault (Read fault)) has is = absurd is
 refused-net text net (Fault (Net fault)) has is = absurd is
+refused-net text net (Fault (Library fault)) has is = absurd is
 refused-net text net Unread has is = is
 refused-net text net NoMemory has is = tt
 
@@ -68,3 +72,22 @@ small told name net N reads =
     let it = reads.has_module in
     let few = it.taken.is_mapped.few in
     subst (λ (M : Network). length M.nodes ≤ MODULE_NODES) (sym it.network) few
+
+-- ---- libraries
+
+pub ends_library : {T : Type 0} (text : Text) (r : Result T NoInput) (end : NoInput) → IsErrAnd r (λ e. e ≡ end) → LibraryEnds text end → IfErr r (LibraryEnds text)
+ends_library text (Ok v) end h t = tt
+ends_library text (Err e) end h t = subst (LibraryEnds text) (sym h) t
+
+module _ (text : Text) (short : IsShortLibrary text) where
+  pub library_ends : (fault : LibraryFault) → (fault ≢ library.NoMemory → Reads text (Err fault)) → LibraryEnds text (library_end fault)
+  library_ends library.NotJson first = (short, first (λ e. cc))
+  library_ends (library.Shape field) first = (short, first (λ e. cc))
+  library_ends (library.BadSize field) first = (short, first (λ e. cc))
+  library_ends (library.UnknownForm name) first = (short, first (λ e. cc))
+  library_ends (library.NoDots form) first = (short, first (λ e. cc))
+  library_ends (library.TooManyDots form) first = (short, first (λ e. cc))
+  library_ends (library.DotOutside form k) first = (short, first (λ e. cc))
+  library_ends (library.SameDot form k) first = (short, first (λ e. cc))
+  library_ends (library.SameDots f g) first = (short, first (λ e. cc))
+  library_ends library.NoMemory first = tt

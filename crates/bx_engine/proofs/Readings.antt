@@ -1,9 +1,14 @@
--- A text is refused for one fault, or taken as that of one module, and never both.
+-- What is read is refused for one fault, or taken as one module and one library, and never both.
 use Rattle.std.specs.Prelude.{⊤, slice_index_or}
-use Rattle.std.proofs.Common.{◌≡◌, ℕ, [], Some, None, Ok, Err, refl, sym, ◌∙◌, ap, subst, arith}
+use Rattle.std.proofs.lemmas.Option.{same_Some}
+use Rattle.std.proofs.Common.{◌≡◌, ℕ, ◌<◌, [], length, Some, None, Ok, Err, refl, sym, ◌∙◌, ap, subst, arith}
 use Rattle.bx_lex.specs.declared.token.LexFault.{LexFault}
 use Rattle.bx_lex.specs.Tokens.{TokenList, HasTokens, HasFault}
 use Rattle.bx_lex.proofs.Readings.{one_reading}
+use Rattle.bx_library.specs.Readings.{Reads}
+use Rattle.bx_library.specs.Tiles.{Tiles}
+use Rattle.bx_library.specs.declared.fault.LibraryFault.{LibraryFault}
+use Rattle.bx_library.proofs.One.{one_reading as one_library_reading}
 use Rattle.bx_syntax.specs.declared.fault.ReadFault.{ReadFault}
 use Rattle.bx_syntax.specs.Parts.{ModuleTree}
 use Rattle.bx_syntax.specs.Terminals.{terminals_of}
@@ -19,8 +24,11 @@ use Rattle.bx_logic.specs.Nets.{Netlist, output_names}
 use Rattle.bx_map.specs.Maps.{first_constant}
 use Rattle.bx_verilog.proofs.OneMeaning.{one-meaning}
 use Rattle.bx_engine.specs.declared.status.InputFault.{InputFault}
-use Rattle.bx_engine.specs.declared.status.InputFault.TheVariants.{TooLong, Lex, Read, Net, Constant, Nodes}
-use Rattle.bx_engine.specs.Texts.{IsText, IsUnread, IsGood, IsMapped, IsConstant, HasManyNodes, IsRefused, IsTaken}
+use Rattle.bx_engine.specs.declared.status.InputFault.TheVariants.{TooLong, Lex, Read, Net, Constant, Nodes, Library}
+use Rattle.bx_engine.specs.declared.status.Which.{Which}
+use Rattle.bx_engine.specs.declared.status.Which.TheVariants.{LibFile}
+use Rattle.bx_engine.specs.Tasks.{Inputs}
+use Rattle.bx_engine.specs.Texts.{IsText, IsUnread, IsGood, IsMapped, IsConstant, HasManyNodes, IsRefused, IsTaken, IsShortLibrary, IsRefusedLibrary, IsTakenLibrary, AreRefused, AreTaken, by_module, by_library}
 
 module _ (text : Text) where
   one_list : (a b : TokenList) → HasTokens text a → HasTokens text b → a ≡ b
@@ -87,6 +95,7 @@ module _ (text : Text) where
   no_early m (Net g) good early (s, (n, x, u)) = text_no_fault m n g good.is_text x good.accepted u
   no_early m (Constant name) good early x = early
   no_early m (Nodes count) good early x = early
+  no_early m (Library fault) good early x = x
 
   -- what holds of the net of one module of the text holds of that of another
   of_one : (P : Netlist → Type 0) (m n : ModuleTree) → IsGood text m → IsGood text n → P (net_of m) → P (net_of n)
@@ -129,6 +138,13 @@ module _ (text : Text) where
   refused_once (Nodes c) (Lex g) (m, a, p) y = absurd (no_early m (Lex g) a tt y)
   refused_once (Nodes c) (Read g) (m, a, p) y = absurd (no_early m (Read g) a tt y)
   refused_once (Nodes c) (Net g) (m, a, p) y = absurd (no_early m (Net g) a tt y)
+  refused_once (TooLong v) (Library g) x y = absurd y
+  refused_once (Lex f) (Library g) x y = absurd y
+  refused_once (Read f) (Library g) x y = absurd y
+  refused_once (Net f) (Library g) x y = absurd y
+  refused_once (Constant n) (Library g) x y = absurd y
+  refused_once (Nodes c) (Library g) x y = absurd y
+  refused_once (Library f) g x y = absurd x
 
   pub not_both : (m : ModuleTree) (f : InputFault) → IsTaken text m → IsRefused text f → ⊥
   not_both m (Constant name) is (n, b, q) = no_constant (net_of m) name (of_one (λ net. IsConstant net name) n m b is.good q) is.is_mapped.no_constant
@@ -137,6 +153,72 @@ module _ (text : Text) where
   not_both m (Lex g) is x = no_early m (Lex g) is.good tt x
   not_both m (Read g) is x = no_early m (Read g) is.good tt x
   not_both m (Net g) is x = no_early m (Net g) is.good tt x
+  not_both m (Library fault) is x = x
 
   pub one_module : (m n : ModuleTree) → IsTaken text m → IsTaken text n → m ≡ n
   one_module m n a b = one_text text m n a.good.is_text b.good.is_text
+
+-- ---- libraries
+
+-- the two ways in which the text of a library is refused
+data IsBadLibrary (text : Text) : InputFault → Type 0 where
+  is_long : 4194304 < length text → IsBadLibrary text (TooLong LibFile)
+  is_faulty : (fault : LibraryFault) → IsShortLibrary text → Reads text (Err fault) → IsBadLibrary text (Library fault)
+
+module _ (text : Text) where
+  bad_library : (f : InputFault) → IsRefusedLibrary text f → IsBadLibrary text f
+  bad_library (TooLong w) (is, long) = subst (λ (v : Which). IsBadLibrary text (TooLong v)) (sym is) (is_long long)
+  bad_library (Library fault) (short, reads) = is_faulty fault short reads
+  bad_library (Lex g) x = absurd x
+  bad_library (Read g) x = absurd x
+  bad_library (Net g) x = absurd x
+  bad_library (Constant name) x = absurd x
+  bad_library (Nodes count) x = absurd x
+
+  bad_once : (f g : InputFault) → IsBadLibrary text f → IsBadLibrary text g → f ≡ g
+  bad_once _ _ (is_long l) (is_long m) = refl
+  bad_once _ _ (is_long l) (is_faulty g short reads) = absurd (omega arith)
+  bad_once _ _ (is_faulty f short reads) (is_long m) = absurd (omega arith)
+  bad_once _ _ (is_faulty f short reads) (is_faulty g too also) =
+      let same : Err f ≡ Err g = one_library_reading text (Err f) (Err g) reads also in
+      let one : f ≡ g = cc in
+      ap Library one
+
+  pub library_refused_once : (f g : InputFault) → IsRefusedLibrary text f → IsRefusedLibrary text g → f ≡ g
+  library_refused_once f g x y = bad_once f g (bad_library f x) (bad_library g y)
+
+  taken_not_bad : (lib : Tiles) (f : InputFault) → IsTakenLibrary text lib → IsBadLibrary text f → ⊥
+  taken_not_bad lib _ taken (is_long l) = let short = taken.short in omega arith
+  taken_not_bad lib _ taken (is_faulty f short reads) = let lost : Ok lib ≡ Err f = one_library_reading text (Ok lib) (Err f) taken.reads reads in cc
+
+  pub library_not_both : (lib : Tiles) (f : InputFault) → IsTakenLibrary text lib → IsRefusedLibrary text f → ⊥
+  library_not_both lib f taken x = taken_not_bad lib f taken (bad_library f x)
+
+  pub one_library : (lib other : Tiles) → IsTakenLibrary text lib → IsTakenLibrary text other → lib ≡ other
+  one_library lib other a b = let same : Ok lib ≡ Ok other = one_library_reading text (Ok lib) (Ok other) a.reads b.reads in cc
+
+-- ---- both
+
+module _ (inputs : Inputs) where
+  -- what holds of one text of the module holds of another
+  net_once : (P : Text → Type 0) (a b : Text) → inputs.net ≡ Some a → inputs.net ≡ Some b → P a → P b
+  net_once P a b e f p = subst P (same_Some a b (sym e ∙ f)) p
+
+  lib_once : (P : Text → Type 0) (a b : Text) → inputs.lib ≡ Some a → inputs.lib ≡ Some b → P a → P b
+  lib_once P a b e f p = subst P (same_Some a b (sym e ∙ f)) p
+
+  pub inputs_refused_once : (f g : InputFault) → AreRefused inputs f → AreRefused inputs g → f ≡ g
+  inputs_refused_once f g (by_module a e why) (by_module b h also) = refused_once b f g (net_once (λ t. IsRefused t f) a b e h why) also
+  inputs_refused_once f g (by_module a e why) (by_library b l m h taken k also) = absurd (not_both b m f taken (net_once (λ t. IsRefused t f) a b e h why))
+  inputs_refused_once f g (by_library a l m e taken k why) (by_module b h also) = absurd (not_both a m g taken (net_once (λ t. IsRefused t g) b a h e also))
+  inputs_refused_once f g (by_library a l m e taken k why) (by_library b o n h takes j also) = library_refused_once o f g (lib_once (λ t. IsRefusedLibrary t f) l o k j why) also
+
+  pub inputs_not_both : (m : ModuleTree) (lib : Tiles) (f : InputFault) → AreTaken inputs m lib → AreRefused inputs f → ⊥
+  inputs_not_both m lib f are (by_module a e why) = not_both are.net_text m f are.taken (net_once (λ t. IsRefused t f) a are.net_text e are.net_is why)
+  inputs_not_both m lib f are (by_library a l n e taken k why) = library_not_both are.lib_text lib f are.taken_library (lib_once (λ t. IsRefusedLibrary t f) l are.lib_text k are.lib_is why)
+
+  pub inputs_taken_once : (m n : ModuleTree) (lib other : Tiles) → AreTaken inputs m lib → AreTaken inputs n other → (m ≡ n) × (lib ≡ other)
+  inputs_taken_once m n lib other a b = (
+    one_module b.net_text m n (net_once (λ t. IsTaken t m) a.net_text b.net_text a.net_is b.net_is a.taken) b.taken,
+    one_library b.lib_text lib other (lib_once (λ t. IsTakenLibrary t lib) a.lib_text b.lib_text a.lib_is b.lib_is a.taken_library) b.taken_library,
+  )

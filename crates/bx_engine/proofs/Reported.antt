@@ -10,9 +10,10 @@ use Rattle.bx_syntax.specs.Parts.{ModuleTree}
 use Rattle.bx_verilog.specs.Formulas.{Text}
 use Rattle.bx_verilog.specs.Mentions.{outputs, number}
 use Rattle.bx_verilog.specs.Elaboration.{net_of}
+use Rattle.bx_dots.specs.Permits.{permit_of}
 use Rattle.bx_grid.specs.declared.ratio.Ratio.{Ratio}
 use Rattle.bx_grid.specs.Tiles.{IsTile}
-use Rattle.bx_layout.specs.Permits.{all_forms}
+use Rattle.bx_library.specs.Tiles.{Tiles}
 use Rattle.bx_says.specs.Texts.{IsPlain}
 use Rattle.bx_says.specs.Reports.{HasPlainNames, IsReportable, report_of}
 use Rattle.bx_says.proofs.Reportable.{reportable as plain-reportable}
@@ -38,8 +39,8 @@ names-plain text m is = record {
 }
 
 pub reportable : (words : List Text) (task : Task) → IsTask words task → (text : Text) (m : ModuleTree) → IsTaken text m
-    → (cert : Certificate) (laid : LaidOut) → Solves task m cert (Some laid) → IsReportable (report_of (net_of m) (network_of m) laid.layout.places laid.grid)
-reportable words task asks text m taken cert laid solves =
-    let good = laid-of (network_of m) all_forms task.limits task.budget (length cert.sections) laid cert.last (minimal words task asks text m taken cert (Some laid) solves).end_at in
+    → (lib : Tiles) (cert : Certificate) (laid : LaidOut) → Solves task m lib cert (Some laid) → IsReportable (report_of (net_of m) (network_of m) laid.layout.places laid.grid)
+reportable words task asks text m taken lib cert laid solves =
+    let good = laid-of (network_of m) (permit_of lib) task.limits task.budget (length cert.sections) laid cert.last (minimal words task asks text m taken lib cert (Some laid) solves).end_at in
     plain-reportable (net_of m) (network_of m) laid.layout.places laid.grid (names-plain text m taken.good.is_text) (network-is text m taken) good.whole
     (λ v t at. subst (λ (r : Ratio). IsTile r t) (sym good.forms.ratio) (good.legal.placed.inside v t at))

@@ -4,6 +4,9 @@ use Rattle.bx_logic.specs.Nets.{Netlist}
 use Rattle.bx_desk.specs.Desk.{DeskState, Files, FailsToLoad, Says, SaysFront, IsFile}
 use Rattle.bx_lex.specs.declared.token.LexFault.{LexFault}
 use Rattle.bx_lex.specs.declared.token.LexFault.TheVariants as lex
+use Rattle.bx_library.specs.Tiles.{Tiles}
+use Rattle.bx_library.specs.declared.fault.LibraryFault.{LibraryFault}
+use Rattle.bx_library.specs.declared.fault.LibraryFault.TheVariants as library
 use Rattle.bx_syntax.specs.declared.fault.ReadFault.{ReadFault}
 use Rattle.bx_syntax.specs.declared.fault.ReadFault.TheVariants as read
 use Rattle.bx_syntax.specs.Parts.{ModuleTree}
@@ -13,35 +16,41 @@ use Rattle.bx_verilog.specs.Formulas.{Text}
 use Rattle.bx_verilog.specs.Elaboration.{net_of}
 use Rattle.bx_network.specs.Networks.{Network}
 use Rattle.bx_map.specs.Maps.{mapping_of}
-use Rattle.bx_engine.specs.declared.load.NoModule.{NoModule}
-use Rattle.bx_engine.specs.declared.load.NoModule.TheVariants.{Fault, Unread, NoMemory}
+use Rattle.bx_engine.specs.declared.load.NoInput.{NoInput}
+use Rattle.bx_engine.specs.declared.load.NoInput.TheVariants.{Fault, Unread, NoMemory}
+use Rattle.bx_engine.specs.declared.status.InputFault.{InputFault}
+use Rattle.bx_engine.specs.declared.status.InputFault.TheVariants.{Lex, Read, Net, Constant, Nodes, Library}
 use Rattle.bx_engine.specs.declared.status.Status.{Status}
 use Rattle.bx_engine.specs.declared.status.Status.TheVariants as status
-use Rattle.bx_engine.specs.declared.status.InputFault.TheVariants.{Lex, Read, Net, Constant, Nodes}
 use Rattle.bx_engine.specs.declared.status.Which.{Which}
-use Rattle.bx_engine.specs.declared.status.Which.TheVariants.{NetFile, Output}
+use Rattle.bx_engine.specs.declared.status.Which.TheVariants.{NetFile, LibFile, Output}
 use Rattle.bx_engine.specs.Answers.{Answer, IsAnswer}
 use Rattle.bx_engine.specs.Effects.{Gives, FailsToGive}
-use Rattle.bx_engine.specs.Tasks.{Task, IsTask, AreTold}
-use Rattle.bx_engine.specs.Texts.{IsGood, IsMapped, IsConstant, HasManyNodes, IsRefused, IsTaken, network_of}
+use Rattle.bx_engine.specs.Tasks.{Task, Inputs, IsTask, AreTold}
+use Rattle.bx_engine.specs.Texts.{IsGood, IsMapped, IsConstant, HasManyNodes, IsRefused, IsTaken, IsRefusedLibrary, IsTakenLibrary, network_of}
 
 -- ---- a run
 
--- an answer that the words and some files give, which are the desk's as far as it tells
+-- an answer that the words give and what is read for them, which is in the desk's files as far as it tells
 pub record HasAnswer (words : List Text) (told : Option Files) (answer : Answer) : Type 0 where
-  pub files : Files
-  pub are_told : AreTold told files
-  pub is : IsAnswer words files answer
+  pub inputs : Task → Inputs
+  pub are_told : AreTold told inputs
+  pub is : IsAnswer words inputs answer
 
--- The answer was given, or couldn't be; or the module's file couldn't be read; or memory was refused. Nothing else
--- changed.
+-- a file is come to that is read: the module's, and where that is taken, as far as the desk tells, the library's
+abbrev pub IsReached : Option Files → Task → Which → Type 0
+IsReached told task NetFile = ⊤
+IsReached told task LibFile = (text : Text) × (m : ModuleTree) × IsFile told task.net text × IsTaken text m
+IsReached told task _ = ⊥
+
+-- The answer was given, or couldn't be; or a file couldn't be read; or memory was refused. Nothing else changed.
 pub data EndsRun (words : List Text) (old new : DeskState) : Status → Type 0 where
   given : (answer : Answer) → HasAnswer words old.files answer → Gives old new answer
       → EndsRun words old new answer.status
   ungiven : (answer : Answer) (which : Which) → HasAnswer words old.files answer
       → FailsToGive old new answer which → EndsRun words old new (status.WriteFault which)
-  unread : (task : Task) → IsTask words task → FailsToLoad old new
-      → EndsRun words old new (status.ReadFault NetFile)
+  unread : (task : Task) (which : Which) → IsTask words task → IsReached old.files task which
+      → FailsToLoad old new → EndsRun words old new (status.ReadFault which)
   no_memory : new ≡ old → EndsRun words old new status.NoMemory
 
 -- ---- its steps
@@ -52,17 +61,21 @@ pub data EndsSaying (old new : DeskState) (own : Status) (text : Text) : Status 
   failed : SaysFront old new text → EndsSaying old new own text (status.WriteFault Output)
 
 -- what a fault of a lower reader comes to
-abbrev pub lex_end : LexFault → NoModule
+abbrev pub lex_end : LexFault → NoInput
 lex_end lex.NoMemory = NoMemory
 lex_end fault = Fault (Lex fault)
 
-abbrev pub read_end : ReadFault → NoModule
+abbrev pub read_end : ReadFault → NoInput
 read_end read.NoMemory = NoMemory
 read_end fault = Fault (Read fault)
 
-abbrev pub net_end : NetFault → NoModule
+abbrev pub net_end : NetFault → NoInput
 net_end nets.NoMemory = NoMemory
 net_end fault = Fault (Net fault)
+
+abbrev pub library_end : LibraryFault → NoInput
+library_end library.NoMemory = NoMemory
+library_end fault = Fault (Library fault)
 
 -- the net is that of the module that is accepted and has this text
 pub record HasNet (text : Text) (net : Netlist) : Type 0 where
@@ -76,7 +89,7 @@ pub record HasNetwork (net : Netlist) (N : Network) : Type 0 where
   pub network : N ≡ mapping_of net
 
 -- why a net is not mapped
-abbrev pub NetEnds : Netlist → NoModule → Type 0
+abbrev pub NetEnds : Netlist → NoInput → Type 0
 NetEnds net (Fault (Constant name)) = IsConstant net name
 NetEnds net (Fault (Nodes count)) = HasManyNodes net count
 NetEnds net (Fault _) = ⊥
@@ -90,7 +103,7 @@ pub record HasModule (text : Text) (net : Netlist) (N : Network) : Type 0 where
   pub same : net ≡ net_of tree
   pub network : N ≡ network_of tree
 
--- so it is with the file of this name, where the desk tells its files
+-- so it is with the file of this name, as far as the desk tells
 pub record ReadsModule (told : Option Files) (name : Text)
     (net : Netlist) (N : Network) : Type 0 where
   pub text : Text
@@ -98,14 +111,26 @@ pub record ReadsModule (told : Option Files) (name : Text)
   pub file : IsFile told name text
 
 -- why no network was made of the text
-abbrev pub TextEnds : Text → NoModule → Type 0
+abbrev pub TextEnds : Text → NoInput → Type 0
 TextEnds text (Fault fault) = IsRefused text fault
 TextEnds text Unread = ⊥
 TextEnds text NoMemory = ⊤
 
--- why none was made of the file
-abbrev pub FileEnds : DeskState → DeskState → Text → NoModule → Type 0
-FileEnds old new name (Fault fault) = (new ≡ old)
+-- the file of this name has the text of this library, as far as the desk tells
+pub record ReadsLibrary (told : Option Files) (name : Text) (lib : Tiles) : Type 0 where
+  pub text : Text
+  pub taken : IsTakenLibrary text lib
+  pub file : IsFile told name text
+
+-- why there is no library of the text
+abbrev pub LibraryEnds : Text → NoInput → Type 0
+LibraryEnds text (Fault fault) = IsRefusedLibrary text fault
+LibraryEnds text Unread = ⊥
+LibraryEnds text NoMemory = ⊤
+
+-- why nothing was made of the file: its text is refused so, or it couldn't be read
+abbrev pub FileEnds : (Text → InputFault → Type 0) → DeskState → DeskState → Text → NoInput → Type 0
+FileEnds IsRefused old new name (Fault fault) = (new ≡ old)
     × ((text : Text) × IsFile old.files name text × IsRefused text fault)
-FileEnds old new name Unread = FailsToLoad old new
-FileEnds old new name NoMemory = new ≡ old
+FileEnds IsRefused old new name Unread = FailsToLoad old new
+FileEnds IsRefused old new name NoMemory = new ≡ old

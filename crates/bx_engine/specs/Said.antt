@@ -1,10 +1,15 @@
 -- What is said: the report of a search, or the line of a refusal.
-use Rattle.std.specs.Prelude.{ℕ, List, [], ◌∷◌, ◌++◌, codes, decimal, Option, Some, None, ⊤}
+use Rattle.std.specs.Prelude.{ℕ, List, [], ◌∷◌, ◌++◌, codes, decimal, Option, Some, None, unwrap_or, ⊤}
 use Rattle.bx_cert.specs.declared.parts.CertLast.{CertLast}
 use Rattle.bx_cert.specs.declared.parts.CertLast.TheVariants as told
 use Rattle.bx_design.specs.declared.solution.LaidOut.{LaidOut}
+use Rattle.bx_forms.specs.Forms.{form_name}
 use Rattle.bx_lex.specs.declared.token.LexFault.{LexFault}
 use Rattle.bx_lex.specs.declared.token.LexFault.TheVariants as lex
+use Rattle.bx_library.specs.declared.fault.Field.{Field}
+use Rattle.bx_library.specs.declared.fault.Field.TheVariants as field
+use Rattle.bx_library.specs.declared.fault.LibraryFault.{LibraryFault}
+use Rattle.bx_library.specs.declared.fault.LibraryFault.TheVariants as library
 use Rattle.bx_syntax.specs.declared.fault.Construct.{Construct}
 use Rattle.bx_syntax.specs.declared.fault.Construct.TheVariants.{Vector, Ternary, Delay, Concat, Operator, Directive, Instance, Second, Number, Reserved}
 use Rattle.bx_syntax.specs.declared.fault.ReadFault.{ReadFault}
@@ -23,9 +28,9 @@ use Rattle.bx_words.specs.Options.{option_name}
 use Rattle.bx_words.specs.declared.faults.WordFault.{WordFault}
 use Rattle.bx_words.specs.declared.faults.WordFault.TheVariants as word
 use Rattle.bx_engine.specs.declared.status.InputFault.{InputFault}
-use Rattle.bx_engine.specs.declared.status.InputFault.TheVariants.{TooLong, Lex, Read, Net, Constant, Nodes}
+use Rattle.bx_engine.specs.declared.status.InputFault.TheVariants.{TooLong, Lex, Read, Net, Constant, Nodes, Library}
 use Rattle.bx_engine.specs.declared.status.Which.{Which}
-use Rattle.bx_engine.specs.declared.status.Which.TheVariants.{NetFile, CertFile, Output}
+use Rattle.bx_engine.specs.declared.status.Which.TheVariants.{NetFile, LibFile, DesignFile, CertFile, Output}
 
 -- ---- reports
 
@@ -69,6 +74,8 @@ memory_text = codes "memory"
 
 abbrev pub which_text : Which → Text
 which_text NetFile = codes "net"
+which_text LibFile = codes "lib"
+which_text DesignFile = codes "design"
 which_text CertFile = codes "cert"
 which_text Output = codes "output"
 
@@ -116,6 +123,33 @@ IsPlainFault (nets.NoDriver name) = IsPlain name
 IsPlainFault (nets.Cycle name) = IsPlain name
 IsPlainFault nets.NoMemory = ⊤
 
+-- a form by its name
+abbrev pub form_text : ℕ → Text
+form_text form = unwrap_or (form_name form) []
+
+abbrev pub field_text : Field → Text
+field_text field.Name = codes "name"
+field_text field.Width = codes "width"
+field_text field.Height = codes "height"
+field_text field.Forms = codes "forms"
+field_text (field.Of form) = form_text form
+
+-- a dot is told by its number in the list of its form, from 0
+abbrev pub library_fault_text : LibraryFault → Text
+library_fault_text library.NotJson = codes "json"
+library_fault_text (library.Shape field) = spaced (codes "shape") (field_text field ∷ [])
+library_fault_text (library.BadSize field) = spaced (codes "size") (field_text field ∷ [])
+library_fault_text (library.UnknownForm name) = spaced (codes "unknown form") (name ∷ [])
+library_fault_text (library.NoDots form) = spaced (codes "no dots") (form_text form ∷ [])
+library_fault_text (library.TooManyDots form) = spaced (codes "many dots") (form_text form ∷ [])
+library_fault_text (library.DotOutside form k) =
+    spaced (codes "dot outside") (form_text form ∷ decimal k ∷ [])
+library_fault_text (library.SameDot form k) =
+    spaced (codes "dot twice") (form_text form ∷ decimal k ∷ [])
+library_fault_text (library.SameDots f g) =
+    spaced (codes "same dots") (form_text f ∷ form_text g ∷ [])
+library_fault_text library.NoMemory = memory_text
+
 abbrev pub input_fault_text : InputFault → Text
 input_fault_text (TooLong which) = spaced (codes "long") (which_text which ∷ [])
 input_fault_text (Lex fault) = lex_fault_text fault
@@ -123,6 +157,7 @@ input_fault_text (Read fault) = read_fault_text fault
 input_fault_text (Net fault) = net_fault_text fault
 input_fault_text (Constant name) = spaced (codes "constant") (name ∷ [])
 input_fault_text (Nodes count) = spaced (codes "nodes") (decimal count ∷ [])
+input_fault_text (Library fault) = library_fault_text fault
 
 unfoldable pub refusal_text : Text → Text
 refusal_text fault = ended (spaced (codes "refused") (fault ∷ []))

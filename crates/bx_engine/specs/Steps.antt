@@ -1,33 +1,47 @@
 -- How the steps of a run end, over what its desk had before.
 use Rattle.std.specs.Prelude.{◌≡◌, length, Option, IfSome}
-use Rattle.bx_desk.specs.Desk.{DeskState, Files, FailsToLoad, IsFile}
+use Rattle.bx_desk.specs.Desk.{DeskState, Files, FailsToLoad}
 use Rattle.bx_design.specs.declared.solution.LaidOut.{LaidOut}
+use Rattle.bx_dots.specs.GridDots.{AreOffered}
+use Rattle.bx_grid.specs.Orders.{IsRatio}
+use Rattle.bx_library.specs.Tiles.{Tiles}
 use Rattle.bx_network.specs.Networks.{Network}
-use Rattle.bx_verilog.specs.Formulas.{Text}
 use Rattle.bx_words.specs.declared.commands.Command.{Command}
 use Rattle.bx_words.specs.declared.commands.Command.TheVariants.{Design}
 use Rattle.bx_words.specs.declared.commands.DesignCommand.{DesignCommand}
 use Rattle.bx_engine.specs.declared.status.Status.{Status}
 use Rattle.bx_engine.specs.declared.status.Status.TheVariants.{ReadFault, WriteFault, NoMemory}
 use Rattle.bx_engine.specs.declared.status.Which.{Which}
-use Rattle.bx_engine.specs.declared.status.Which.TheVariants.{NetFile}
 use Rattle.bx_engine.specs.Answers.{Answer, IsAnswerTo}
 use Rattle.bx_engine.specs.Effects.{Gives, FailsToGive}
-use Rattle.bx_engine.specs.Tasks.{Task}
+use Rattle.bx_engine.specs.Runs.{IsReached}
+use Rattle.bx_engine.specs.Tasks.{Task, Inputs, AreTold}
 
 -- what the words of `design` ask for
 abbrev pub task_of : DesignCommand → Task
-task_of d = record { net = d.net.now; cert = d.cert.now; limits = d.limits; budget = d.budget }
+task_of d = record {
+  net = d.net.now;
+  lib = d.lib.now;
+  design = d.design.now;
+  cert = d.cert.now;
+  limits = d.limits;
+  budget = d.budget;
+}
 
 -- each node of a layout that was found has a place
 abbrev pub HasPlaces : Network → Option LaidOut → Type 0
 HasPlaces N found = IfSome found (λ laid. length laid.layout.places ≡ length N.nodes)
 
--- an answer to a task, by the text that the module's file has as far as the desk tells
+-- a layout that was found has forms of the library alone, and sides that a design may have
+pub record CanBeDrawn (lib : Tiles) (laid : LaidOut) : Type 0 where
+  pub offered : AreOffered lib laid.grid
+  pub ratio : IsRatio laid.grid.ratio
+
+-- an answer to a task, by what is read for it, as far as the desk tells
 pub record HasAnswerTo (told : Option Files) (task : Task) (answer : Answer) : Type 0 where
-  pub text : Text
-  pub is_file : IsFile told task.net text
-  pub is : IsAnswerTo task text answer
+  pub inputs : Task → Inputs
+  pub are_told : AreTold told inputs
+  pub is : IsAnswerTo task (inputs task) answer
 
 -- the answer was given, or couldn't be
 pub data EndsGiving (old new : DeskState) (answer : Answer) : Status → Type 0 where
@@ -35,11 +49,12 @@ pub data EndsGiving (old new : DeskState) (answer : Answer) : Status → Type 0 
   ungiven : (which : Which) → FailsToGive old new answer which
       → EndsGiving old new answer (WriteFault which)
 
--- so it is with an answer to the task of `design`; or the module's file couldn't be read; or memory was refused
+-- so it is with an answer to the task of `design`; or a file couldn't be read; or memory was refused
 pub data EndsDesign (d : DesignCommand) (old new : DeskState) : Status → Type 0 where
   answered : (answer : Answer) (status : Status) → HasAnswerTo old.files (task_of d) answer
       → EndsGiving old new answer status → EndsDesign d old new status
-  unread : FailsToLoad old new → EndsDesign d old new (ReadFault NetFile)
+  unread : (which : Which) → IsReached old.files (task_of d) which → FailsToLoad old new
+      → EndsDesign d old new (ReadFault which)
   no_memory : new ≡ old → EndsDesign d old new NoMemory
 
 -- how each command ends

@@ -1,17 +1,19 @@
--- What the words ask a run to do, and the files that it is told of.
+-- What the words ask a run to do, and what it has of the files that it reads.
 use Rattle.std.specs.Prelude.{◌≡◌, ℕ, List, Option, Some, None, IfSome, IsSome}
 use Rattle.bx_desk.specs.Desk.{Files}
 use Rattle.bx_grid.specs.declared.ratio.Limits.{Limits}
 use Rattle.bx_words.specs.Verbs.{Text, verb_of}
 use Rattle.bx_words.specs.Clap.{rows, given_in, named_in}
 use Rattle.bx_words.specs.Words.{first_fault, limits_of, budget_of}
-use Rattle.bx_words.specs.declared.verbs.File.TheVariants.{Net, Cert}
+use Rattle.bx_words.specs.declared.verbs.File.TheVariants.{Net, Lib, Design as DesignFile, Cert}
 use Rattle.bx_words.specs.declared.verbs.Verb.TheVariants.{Design}
 
--- to design the module of a file within limits, with a budget for each ratio, and to write the certificate to
--- another file
+-- To design the module of a file by the forms of a library, within limits, with a budget for each ratio, and to write
+-- design and certificate to two files. How many workers share the work is no part of it.
 pub record Task : Type 0 where
   pub net : Text
+  pub lib : Text
+  pub design : Text
   pub cert : Text
   pub limits : Limits
   pub budget : ℕ
@@ -21,21 +23,24 @@ pub record IsTask (words : List Text) (task : Task) : Type 0 where
   pub no_fault : first_fault words ≡ None
   pub verb : verb_of words ≡ Some Design
   pub net : named_in (rows Design words) Net ≡ Some task.net
+  pub lib : named_in (rows Design words) Lib ≡ Some task.lib
+  pub design : named_in (rows Design words) DesignFile ≡ Some task.design
   pub cert : named_in (rows Design words) Cert ≡ Some task.cert
   pub limits : task.limits ≡ limits_of (given_in (rows Design words))
   pub budget : task.budget ≡ budget_of (given_in (rows Design words))
 
--- these are the files, as far as the desk tells
-abbrev pub AreTold : Option Files → Files → Type 0
-AreTold told files = IfSome told (λ t. t ≡ files)
+-- what is read for a task: the text of its module's file and that of its library's, or none where there is no file
+pub record Inputs : Type 0 where
+  pub net : Option Text
+  pub lib : Option Text
 
--- the desk tells that the words ask for this, and that the module's file has this text
-pub record IsToldText (words : List Text) (told : Option Files)
-    (task : Task) (text : Text) : Type 0 where
-  pub is_task : IsTask words task
-  pub files : Files
-  pub told_are : told ≡ Some files
-  pub is_text : files task.net ≡ Some text
+-- what these files are read as
+abbrev pub inputs_of : Files → Task → Inputs
+inputs_of files task = record { net = files task.net; lib = files task.lib }
+
+-- that is what is read, as far as the desk tells
+abbrev pub AreTold : Option Files → (Task → Inputs) → Type 0
+AreTold told inputs = IfSome told (λ files. inputs ≡ inputs_of files)
 
 -- the file is there, as far as the desk tells
 abbrev pub IsThere : Option Files → Text → Type 0

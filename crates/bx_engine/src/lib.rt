@@ -5,9 +5,12 @@ mod engine;
 pub mod laws;
 pub mod limits;
 mod load;
+mod plan;
 mod refusal;
 mod report;
+mod say;
 mod status;
+mod write;
 
 pub use bx_words::{Opt, WordFault};
 pub use engine::run;

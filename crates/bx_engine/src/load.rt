@@ -1,15 +1,17 @@
-//! From the file of a module to its network: the text is loaded and cut into tokens, these are read as a
-//! module, the module gives its net, and the net is mapped. It promises the network where there is one and
-//! else why there is none, and says nothing. Each step is another's.
+//! From the files that are read to a network and a library. The text of a module is cut into tokens, these
+//! are read as a module, the module gives its net, and the net is mapped. It promises network and library
+//! where there are such and else why there is none, and says nothing. Each step is another's.
 ghost use Rattle.std.specs.Prelude.{◌≡◌, ◌<◌, length, slice_index_or, [], IfOk, IfErr, OnOk};
 ghost use Rattle.bx_logic.specs.Nets.{output_names};
-ghost use Rattle.bx_engine.specs.Texts.{IsShort};
-ghost use Rattle.bx_engine.specs.Runs.{HasNet, HasNetwork, HasModule, ReadsModule, NetEnds, TextEnds, FileEnds};
+ghost use Rattle.bx_engine.specs.Texts.{IsShort, IsShortLibrary, IsRefused, IsRefusedLibrary, IsTakenLibrary};
+ghost use Rattle.bx_engine.specs.Runs.{HasNet, HasNetwork, HasModule, ReadsModule, ReadsLibrary};
+ghost use Rattle.bx_engine.specs.Runs.{NetEnds, TextEnds, LibraryEnds, FileEnds};
 
-use crate::limits::{MODULE_BYTES, MODULE_NODES};
+use crate::limits::{LIBRARY_BYTES, MODULE_BYTES, MODULE_NODES};
 use crate::status::{InputFault, Which};
 use bx_desk::{Desk, LoadFault};
 use bx_lex::{LexFault, read_tokens};
+use bx_library::{Library, LibraryFault, read_library};
 use bx_logic::{Name, Net, NoMemory};
 use bx_map::{MapFault, map_net};
 use bx_network::MappedNet;
@@ -23,9 +25,9 @@ pub(crate) struct Module {
     pub mapped: MappedNet,
 }
 
-/// Why there is no network of a file. Nothing was said yet.
+/// Why there is no network or library of a file. Nothing was said yet.
 #[derive(Drop)]
-pub(crate) enum NoModule {
+pub(crate) enum NoInput {
     /// The file was read and is refused.
     Fault(InputFault),
     /// The file could not be read.
@@ -34,7 +36,7 @@ pub(crate) enum NoModule {
     NoMemory,
 }
 
-impl From<LexFault> for NoModule {
+impl From<LexFault> for NoInput {
     ghost use Rattle.std.specs.Prelude.{◌≡◌};
     ghost use Rattle.bx_engine.specs.Runs.{lex_end};
 
@@ -42,13 +44,13 @@ impl From<LexFault> for NoModule {
 
     fn from(fault: LexFault) -> Self {
         match fault {
-            LexFault::NoMemory => NoModule::NoMemory,
-            fault => NoModule::Fault(InputFault::Lex(fault)),
+            LexFault::NoMemory => NoInput::NoMemory,
+            fault => NoInput::Fault(InputFault::Lex(fault)),
         }
     }
 }
 
-impl From<ReadFault> for NoModule {
+impl From<ReadFault> for NoInput {
     ghost use Rattle.std.specs.Prelude.{◌≡◌};
     ghost use Rattle.bx_engine.specs.Runs.{read_end};
 
@@ -56,13 +58,13 @@ impl From<ReadFault> for NoModule {
 
     fn from(fault: ReadFault) -> Self {
         match fault {
-            ReadFault::NoMemory => NoModule::NoMemory,
-            fault => NoModule::Fault(InputFault::Read(fault)),
+            ReadFault::NoMemory => NoInput::NoMemory,
+            fault => NoInput::Fault(InputFault::Read(fault)),
         }
     }
 }
 
-impl From<NetFault> for NoModule {
+impl From<NetFault> for NoInput {
     ghost use Rattle.std.specs.Prelude.{◌≡◌};
     ghost use Rattle.bx_engine.specs.Runs.{net_end};
 
@@ -70,20 +72,34 @@ impl From<NetFault> for NoModule {
 
     fn from(fault: NetFault) -> Self {
         match fault {
-            NetFault::NoMemory => NoModule::NoMemory,
-            fault => NoModule::Fault(InputFault::Net(fault)),
+            NetFault::NoMemory => NoInput::NoMemory,
+            fault => NoInput::Fault(InputFault::Net(fault)),
         }
     }
 }
 
-impl From<NoMemory> for NoModule {
+impl From<LibraryFault> for NoInput {
     ghost use Rattle.std.specs.Prelude.{◌≡◌};
-    ghost use Rattle.bx_engine.specs.declared.load.NoModule.TheVariants.{NoMemory as Refused};
+    ghost use Rattle.bx_engine.specs.Runs.{library_end};
+
+    ghost from_gives = { λ fault end. end ≡ library_end fault };
+
+    fn from(fault: LibraryFault) -> Self {
+        match fault {
+            LibraryFault::NoMemory => NoInput::NoMemory,
+            fault => NoInput::Fault(InputFault::Library(fault)),
+        }
+    }
+}
+
+impl From<NoMemory> for NoInput {
+    ghost use Rattle.std.specs.Prelude.{◌≡◌};
+    ghost use Rattle.bx_engine.specs.declared.load.NoInput.TheVariants.{NoMemory as Refused};
 
     ghost from_gives = { λ _ end. end ≡ Refused };
 
     fn from(_fault: NoMemory) -> Self {
-        NoModule::NoMemory
+        NoInput::NoMemory
     }
 }
 
@@ -92,23 +108,23 @@ pub(crate) fn load_module<D: Desk>(
     alloc: Global,
     name: &str,
     desk: &mut D,
-) -> Result<Module, NoModule>
+) -> Result<Module, NoInput>
     ensures source { IfOk result (λ source.
         ReadsModule (D.state desk.old).files name.now source.net source.mapped) }
     ensures ok_stays { OnOk result (D.state desk.new ≡ D.state desk.old) }
-    ensures err { IfErr result (FileEnds (D.state desk.old) (D.state desk.new) name.now) }
+    ensures err { IfErr result (FileEnds IsRefused (D.state desk.old) (D.state desk.new) name.now) }
 {
     let mut text = Vec::new(alloc);
     match desk.load(name, MODULE_BYTES, &mut text) {
         Ok(()) => module_of_text(alloc, &text),
-        Err(LoadFault::TooLong) => Err(NoModule::Fault(InputFault::TooLong(Which::NetFile))),
-        Err(LoadFault::Failed) => Err(NoModule::Unread),
-        Err(LoadFault::NoMemory) => Err(NoModule::NoMemory),
+        Err(LoadFault::TooLong) => Err(NoInput::Fault(InputFault::TooLong(Which::NetFile))),
+        Err(LoadFault::Failed) => Err(NoInput::Unread),
+        Err(LoadFault::NoMemory) => Err(NoInput::NoMemory),
     }
 }
 
 // Reads the module of a text and maps it.
-fn module_of_text(alloc: Global, text: &[u8]) -> Result<Module, NoModule>
+fn module_of_text(alloc: Global, text: &[u8]) -> Result<Module, NoInput>
     requires { IsShort text.now }
     ensures source { IfOk result (λ source. HasModule text.now source.net source.mapped) }
     ensures err { IfErr result (TextEnds text.now) }
@@ -119,7 +135,7 @@ fn module_of_text(alloc: Global, text: &[u8]) -> Result<Module, NoModule>
 }
 
 // Reads the module of a text, and makes its net.
-fn net_of_text(alloc: Global, text: &[u8]) -> Result<Net, NoModule>
+fn net_of_text(alloc: Global, text: &[u8]) -> Result<Net, NoInput>
     requires { IsShort text.now }
     ensures net { IfOk result (HasNet text.now) }
     ensures err { IfErr result (TextEnds text.now) }
@@ -131,7 +147,7 @@ fn net_of_text(alloc: Global, text: &[u8]) -> Result<Net, NoModule>
 }
 
 // Maps a net to its network, unless an output is constant or there are too many nodes.
-fn network_of_net(alloc: Global, net: &Net) -> Result<MappedNet, NoModule>
+fn network_of_net(alloc: Global, net: &Net) -> Result<MappedNet, NoInput>
     ensures network { IfOk result (HasNetwork net.now) }
     ensures err { IfErr result (NetEnds net.now) }
 {
@@ -139,10 +155,10 @@ fn network_of_net(alloc: Global, net: &Net) -> Result<MappedNet, NoModule>
         Ok(mapped) => Ok(mapped),
         Err(MapFault::ConstantOutput(port)) => {
             let name = name_of_output(alloc, net, port)?;
-            Err(NoModule::Fault(InputFault::Constant(name)))
+            Err(NoInput::Fault(InputFault::Constant(name)))
         }
-        Err(MapFault::TooManyNodes(count)) => Err(NoModule::Fault(InputFault::Nodes(count))),
-        Err(MapFault::NoMemory) => Err(NoModule::NoMemory),
+        Err(MapFault::TooManyNodes(count)) => Err(NoInput::Fault(InputFault::Nodes(count))),
+        Err(MapFault::NoMemory) => Err(NoInput::NoMemory),
     }
 }
 
@@ -153,4 +169,35 @@ fn name_of_output(alloc: Global, net: &Net, port: u32) -> Result<Name, NoMemory>
 {
     let bytes = Vec::from_slice(alloc, net.output_name(port).as_slice())?;
     Ok(Name::new(bytes))
+}
+
+/// Loads the file and reads its library.
+pub(crate) fn load_library<D: Desk>(
+    alloc: Global,
+    name: &str,
+    desk: &mut D,
+) -> Result<Library, NoInput>
+    ensures library { IfOk result (ReadsLibrary (D.state desk.old).files name.now) }
+    ensures ok_stays { OnOk result (D.state desk.new ≡ D.state desk.old) }
+    ensures err { IfErr result (FileEnds IsRefusedLibrary (D.state desk.old) (D.state desk.new) name.now) }
+{
+    let mut text = Vec::new(alloc);
+    match desk.load(name, LIBRARY_BYTES, &mut text) {
+        Ok(()) => library_of_text(alloc, &text),
+        Err(LoadFault::TooLong) => Err(NoInput::Fault(InputFault::TooLong(Which::LibFile))),
+        Err(LoadFault::Failed) => Err(NoInput::Unread),
+        Err(LoadFault::NoMemory) => Err(NoInput::NoMemory),
+    }
+}
+
+// Reads the library of a text.
+fn library_of_text(alloc: Global, text: &[u8]) -> Result<Library, NoInput>
+    requires { IsShortLibrary text.now }
+    ensures library { IfOk result (IsTakenLibrary text.now) }
+    ensures err { IfErr result (LibraryEnds text.now) }
+{
+    let library = read_library(alloc, text)?;
+    // (known from here on: it keeps what a library keeps)
+    let _width = library.width();
+    Ok(library)
 }

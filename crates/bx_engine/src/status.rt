@@ -4,6 +4,7 @@ ghost use Rattle.std.specs.Prelude.{◌≡◌};
 
 use bx_grid::Ratio;
 use bx_lex::LexFault;
+use bx_library::LibraryFault;
 use bx_logic::Name;
 use bx_verilog::{NetFault, ReadFault};
 use bx_words::WordFault;
@@ -11,7 +12,7 @@ use bx_words::WordFault;
 /// How a run ended.
 #[derive(Drop)]
 pub enum Status {
-    /// A layout was found, of this ratio. The certificate was written, and the report said.
+    /// A layout was found, of this ratio. Design and certificate were written, and the report said.
     Found(Ratio),
     /// The first ratio that isn't refuted, and how much of the budget was spent on it: the next step would have
     /// passed the budget. The certificate was written, and the report said.
@@ -30,8 +31,9 @@ pub enum Status {
     Words(WordFault),
 }
 
-/// What is wrong with an input. A text is read in this order, and the first that is wrong is answered.
-/// Want of memory is no fault of an input, so no fault of a lower reader that stands here is that.
+/// What is wrong with an input. The module is read first, in this order, and where nothing is wrong with it
+/// the library; the first that is wrong is answered. Want of memory is no fault of an input, so no fault of a
+/// lower reader that stands here is that.
 #[derive(Drop)]
 pub enum InputFault {
     /// The file is longer than is read.
@@ -46,6 +48,8 @@ pub enum InputFault {
     Constant(Name),
     /// The mapped network has so many nodes, more than are laid out.
     Nodes(u64),
+    /// The text is no library of forms, as `LibraryFault` says.
+    Library(LibraryFault),
 }
 
 /// A file or output that a fault is about.
@@ -53,6 +57,10 @@ pub enum InputFault {
 pub enum Which {
     /// The file of the module, which the words name.
     NetFile,
+    /// The file of the library, which the words name.
+    LibFile,
+    /// The file that the design is written to, which the words name.
+    DesignFile,
     /// The file that the certificate is written to, which the words name.
     CertFile,
     /// What the run says.

@@ -4,7 +4,7 @@
 use crate::asserts::{are_bytes, holds, is_number, is_text};
 use bx_cert::{Cert, CertLast, MOST_CERT_BUDGET, write_cert};
 use bx_design::{LaidOut, Solution, find_design};
-use bx_desk::{Failed, MemDesk, Piece};
+use bx_desk::{Failed, MemDesk, OpenGate, Piece};
 use bx_encode::MOST_NODES;
 use bx_grid::{Limits, MOST_LIMIT};
 use bx_layout::FormGrid;
@@ -13,6 +13,7 @@ use bx_network::MappedNet;
 use bx_samples::{conjunction, inversion, passing, without};
 use std::alloc::Global;
 use std::test::Fail;
+use std::thread::Threads;
 
 // ---- A wire
 
@@ -68,26 +69,28 @@ const CASES: &[Case] = &[
 fn a_wire_has_this_certificate(rt: HostRuntime) -> Result<(), Fail> {
     let net = passing(rt.alloc())?;
     for &(left_out, area, budget, wanted) in CASES {
-        let cert = cert_text(rt.alloc(), &net, left_out, area, budget)?;
+        let cert = cert_text(&rt, rt.alloc(), &net, left_out, area, budget)?;
         are_bytes(&rt, &cert, wanted.as_bytes(), wanted);
     }
     Ok(())
 }
 
 // The text of the certificate of a solution.
-fn cert_text(
+fn cert_text<R: Threads + Sync>(
+    rt: &R,
     alloc: Global,
     net: &MappedNet,
     left_out: &[u8],
     area: u32,
     budget: u64,
 ) -> Result<Vec<u8>, Fail> {
-    let solution = solution_of(alloc, net, left_out, area, budget)?;
+    let solution = solution_of(rt, alloc, net, left_out, area, budget)?;
     text_of(alloc, &solution.cert)
 }
 
 // The solution without these forms, within this area and this budget.
-fn solution_of(
+fn solution_of<R: Threads + Sync>(
+    rt: &R,
     alloc: Global,
     net: &MappedNet,
     left_out: &[u8],
@@ -102,7 +105,16 @@ fn solution_of(
         width: MOST_LIMIT,
         height: MOST_LIMIT,
     };
-    Ok(find_design(alloc, net, &without(left_out), limits, budget)?)
+    Ok(find_design(
+        rt,
+        alloc,
+        net,
+        &without(left_out),
+        limits,
+        budget,
+        4,
+        &OpenGate,
+    )?)
 }
 
 // What is written for a certificate.
@@ -144,7 +156,7 @@ const INVERTERS: &[(u32, &str)] = &[
 fn an_inverter_takes_three_rows(rt: HostRuntime) -> Result<(), Fail> {
     let net = inversion(rt.alloc())?;
     for &(area, wanted) in INVERTERS {
-        let cert = cert_text(rt.alloc(), &net, &[], area, 9)?;
+        let cert = cert_text(&rt, rt.alloc(), &net, &[], area, 9)?;
         are_bytes(&rt, &cert, wanted.as_bytes(), wanted);
     }
     Ok(())
@@ -157,7 +169,7 @@ const AND_FRONT: &str =
 #[test]
 fn a_gate_of_two_operands_takes_six_tiles(rt: HostRuntime) -> Result<(), Fail> {
     let net = conjunction(rt.alloc())?;
-    let solution = solution_of(rt.alloc(), &net, &[], 100, 100_000)?;
+    let solution = solution_of(&rt, rt.alloc(), &net, &[], 100, 100_000)?;
     let text = text_of(rt.alloc(), &solution.cert)?;
     holds(&rt, text.starts_with(AND_FRONT.as_bytes()), "front");
     holds(&rt, has_gate_at(solution.cert.last(), 0, 1), "gate");
@@ -180,7 +192,7 @@ fn has_gate_at(last: &CertLast, x: u32, y: u32) -> bool {
 #[test]
 fn what_was_found_has_its_places(rt: HostRuntime) -> Result<(), Fail> {
     let net = passing(rt.alloc())?;
-    let layout = laid_out(rt.alloc(), &net)?.layout;
+    let layout = laid_out(&rt, rt.alloc(), &net)?.layout;
     holds(&rt, layout.ratio.w == 1 && layout.ratio.h == 2, "ratio");
     holds(&rt, layout.places.as_slice() == [0, 1].as_slice(), "places");
     Ok(())
@@ -189,7 +201,7 @@ fn what_was_found_has_its_places(rt: HostRuntime) -> Result<(), Fail> {
 #[test]
 fn what_was_found_has_its_forms(rt: HostRuntime) -> Result<(), Fail> {
     let net = passing(rt.alloc())?;
-    let grid = laid_out(rt.alloc(), &net)?.grid;
+    let grid = laid_out(&rt, rt.alloc(), &net)?.grid;
     is_number(&rt, u64::from(grid.ratio().w), 1, "columns");
     let names = names_of(rt.alloc(), &grid)?;
     is_text(&rt, names.as_str(), "input_r output_l ", "names");
@@ -197,8 +209,8 @@ fn what_was_found_has_its_forms(rt: HostRuntime) -> Result<(), Fail> {
 }
 
 // The layout of a network, with its forms.
-fn laid_out(alloc: Global, net: &MappedNet) -> Result<LaidOut, Fail> {
-    let Solution { cert: _cert, found } = solution_of(alloc, net, &[], 100, 100_000)?;
+fn laid_out<R: Threads + Sync>(rt: &R, alloc: Global, net: &MappedNet) -> Result<LaidOut, Fail> {
+    let Solution { cert: _cert, found } = solution_of(rt, alloc, net, &[], 100, 100_000)?;
     match found {
         Some(laid) => Ok(laid),
         None => Err("found".into()),

@@ -2,77 +2,22 @@
 //! desk that fails.
 
 use crate::asserts::{are_bytes, holds, is_number, is_text};
-use bx_desk::{Gate, MemDesk, OpenGate};
+use crate::runs::{
+    DESIGN, HALF_ADDER, INVERTER, WIRE, WIRE_CERT, WIRE_REPORT, blamed, desk_of, desk_with,
+    ends_saying, has_file, run_with, run_words, writes_nothing,
+};
+use bx_desk::MemDesk;
 use bx_engine::limits::MODULE_BYTES;
-use bx_engine::{InputFault, Status, Which, run};
+use bx_engine::{InputFault, Status, Which};
 use bx_logic::NoMemory;
 use std::alloc::Global;
 use std::process::Abort;
-use std::sync::atomic::{AtomicU64, Ordering};
 use std::test::Fail;
 use std::thread::Threads;
 
-// Runs these words, as the program hands them on.
-fn run_words<R: Threads + Sync>(
-    rt: &R,
-    alloc: Global,
-    line: &str,
-    desk: &mut MemDesk,
-) -> Result<Status, NoMemory> {
-    let words = words(alloc, line)?;
-    Ok(run(rt, alloc, &words, desk, &OpenGate))
-}
-
-fn words(alloc: Global, line: &str) -> Result<Vec<String>, NoMemory> {
-    let mut words = Vec::new(alloc);
-    for word in line.split_whitespace() {
-        words.push(String::from_str(alloc, word)?)?;
-    }
-    Ok(words)
-}
-
-// Runs the command for the module and the certificate of the desk, with these options.
-fn run_with<R: Threads + Sync>(
-    rt: &R,
-    alloc: Global,
-    options: &str,
-    desk: &mut MemDesk,
-) -> Result<Status, NoMemory> {
-    let line = format!(in alloc; "design net.v out.cert {options}")?;
-    run_words(rt, alloc, line.as_str(), desk)
-}
-
-// A desk with a module, a place for its certificate, and room for what these tests say.
-fn desk_with(alloc: Global, text: &[u8]) -> Result<MemDesk, NoMemory> {
-    let mut desk = MemDesk::new(alloc);
-    desk.put("net.v", text)?;
-    desk.make_room("out.cert", 65_536)?;
-    desk.say_room(4096)?;
-    Ok(desk)
-}
-
-// Asserts with which exit status a run ended, and what it said.
-fn ends_saying(rt: &impl Abort, status: &Status, desk: &MemDesk, code: u64, said: &str) {
-    is_number(rt, u64::from(status.code()), code, said);
-    are_bytes(rt, desk.said(), said.as_bytes(), said);
-}
-
-// Asserts what the file of the certificate has, and that the module's file is as it was.
-fn leaves(rt: &impl Abort, desk: &MemDesk, cert: Option<&str>, text: &str) {
-    let wanted = cert.map(|cert| cert.as_bytes());
-    holds(rt, desk.file("out.cert") == wanted, text);
-    holds(rt, desk.file("net.v") == Some(text.as_bytes()), text);
-}
-
-const WIRE: &str = "module m(a, y); input a; output y; assign y = a; endmodule";
-
-const WIRE_REPORT: &str =
-    "module m\nnodes 2 edges 1\nfound 1 2\ninput a 0 0\noutput y 0 1\nrow 0 input_r\nrow 1 output_l\n";
-
-const WIRE_CERT: &str =
-    "bestagon cert 1\nlimits 100 144 144 100000\ncount 1 1 late 0\nfound 1 2\nplace 0 0\nplace 0 1\nend\n";
-
-const INVERTER: &str = "module m(a, y); input a; output y; not (y, a); endmodule\n";
+// The design of that: the six dots of `input_r`, and those of `output_l` in the row below, half a tile further right.
+const WIRE_DESIGN: &str =
+    "<?xml version=\"1.0\" encoding=\"UTF-8\"?>\n<siqad>\n<program>\n<file_purpose>save</file_purpose>\n<created_by>bestagon 1 2</created_by>\n</program>\n<layers>\n<layer_prop><name>Surface</name><type>DB</type></layer_prop>\n</layers>\n<design>\n<layer type=\"DB\">\n<dbdot><latcoord n=\"1\" m=\"1\" l=\"0\"/></dbdot>\n<dbdot><latcoord n=\"2\" m=\"3\" l=\"0\"/></dbdot>\n<dbdot><latcoord n=\"3\" m=\"3\" l=\"0\"/></dbdot>\n<dbdot><latcoord n=\"4\" m=\"3\" l=\"0\"/></dbdot>\n<dbdot><latcoord n=\"5\" m=\"3\" l=\"0\"/></dbdot>\n<dbdot><latcoord n=\"1\" m=\"3\" l=\"1\"/></dbdot>\n<dbdot><latcoord n=\"5\" m=\"7\" l=\"0\"/></dbdot>\n<dbdot><latcoord n=\"5\" m=\"9\" l=\"0\"/></dbdot>\n<dbdot><latcoord n=\"7\" m=\"9\" l=\"0\"/></dbdot>\n<dbdot><latcoord n=\"8\" m=\"9\" l=\"0\"/></dbdot>\n<dbdot><latcoord n=\"9\" m=\"9\" l=\"0\"/></dbdot>\n<dbdot><latcoord n=\"6\" m=\"9\" l=\"1\"/></dbdot>\n</layer>\n</design>\n</siqad>\n";
 
 const INVERTER_REPORT: &str =
     "module m\nnodes 3 edges 2\nfound 1 3\ninput a 0 0\noutput y 0 2\nrow 0 input_r\nrow 1 not_ll\nrow 2 output_r\n";
@@ -123,8 +68,19 @@ fn each_module_has_its_report_and_certificate(rt: HostRuntime) -> Result<(), Fai
         let mut desk = desk_with(rt.alloc(), text.as_bytes())?;
         let status = run_with(&rt, rt.alloc(), options, &mut desk)?;
         ends_saying(&rt, &status, &desk, code, said);
-        leaves(&rt, &desk, Some(cert), text);
+        has_file(&rt, &desk, "out.cert", Some(cert));
+        has_file(&rt, &desk, "net.v", Some(text));
+        holds(&rt, desk.file("out.sqd").is_some() == (code == 0), said);
     }
+    Ok(())
+}
+
+#[test]
+fn a_wire_has_this_design(rt: HostRuntime) -> Result<(), Fail> {
+    let mut desk = desk_with(rt.alloc(), WIRE.as_bytes())?;
+    let status = run_with(&rt, rt.alloc(), "", &mut desk)?;
+    ends_saying(&rt, &status, &desk, 0, WIRE_REPORT);
+    has_file(&rt, &desk, "out.sqd", Some(WIRE_DESIGN));
     Ok(())
 }
 
@@ -179,9 +135,6 @@ fn a_chain_stands_in_one_column(rt: HostRuntime) -> Result<(), Fail> {
 }
 
 const AND: &str = "module m(a, b, y); input a, b; output y; and (y, a, b); endmodule";
-
-const HALF_ADDER: &str =
-    "module ha(a, b, s, c); input a, b; output s, c; xor (s, a, b); and (c, a, b); endmodule";
 
 const TOP: &str =
     "// Benchmark \"top\"\nmodule top ( \\a[0] , b, c, y );\n  input  \\a[0] , b, c;\n  output y;\n  wire n1;\n  assign n1 = \\a[0]  & ~b;\n  assign y = ~n1;\nendmodule\n";
@@ -267,32 +220,67 @@ fn lines_with(text: &[u8], front: &str) -> u64 {
         .count() as u64
 }
 
-// Further words, and what is said of all words.
+// Words, and what is said of them.
 const MISUSED: &[(&str, &str)] = &[
     ("", "refused words command\n"),
-    ("draw net.v out.cert", "refused words command\n"),
-    ("net.v out.cert design", "refused words command\n"),
-    ("design net.v", "refused words usage\n"),
     (
-        "design net.v out.cert --workers 17",
+        "draw net.v lib.json out.sqd out.cert",
+        "refused words command\n",
+    ),
+    (
+        "net.v lib.json out.sqd out.cert design",
+        "refused words command\n",
+    ),
+    ("design net.v", "refused words usage\n"),
+    ("design net.v out.cert", "refused words usage\n"),
+    ("design net.v lib.json out.cert", "refused words usage\n"),
+    (
+        "design net.v lib.json out.sqd out.cert --help",
         "refused words usage\n",
     ),
-    ("design net.v out.cert --help", "refused words usage\n"),
-    ("design net.v net.v", "refused words same\n"),
     (
-        "design net.v out.cert --area x",
+        "design net.v lib.json net.v out.cert",
+        "refused words same\n",
+    ),
+    (
+        "design net.v lib.json out.sqd net.v",
+        "refused words same\n",
+    ),
+    (
+        "design net.v lib.json lib.json out.cert",
+        "refused words same\n",
+    ),
+    (
+        "design net.v lib.json out.sqd lib.json",
+        "refused words same\n",
+    ),
+    ("design net.v lib.json a a", "refused words same\n"),
+    (
+        "design net.v lib.json out.sqd out.cert --workers 17",
+        "refused words range workers\n",
+    ),
+    (
+        "design net.v lib.json out.sqd out.cert --workers 0",
+        "refused words range workers\n",
+    ),
+    (
+        "design net.v lib.json out.sqd out.cert --workers x",
+        "refused words number workers\n",
+    ),
+    (
+        "design net.v lib.json out.sqd out.cert --area x",
         "refused words number area\n",
     ),
     (
-        "design net.v out.cert --width 0",
+        "design net.v lib.json out.sqd out.cert --width 0",
         "refused words range width\n",
     ),
     (
-        "design net.v out.cert --area 2 --budget 22369622",
+        "design net.v lib.json out.sqd out.cert --area 2 --budget 22369622",
         "refused words work 67108866\n",
     ),
     (
-        "design net.v out.cert --area 144 --budget 100000",
+        "design net.v lib.json out.sqd out.cert --area 144 --budget 100000",
         "refused words work 74600000\n",
     ),
 ];
@@ -303,7 +291,7 @@ fn words_that_are_misused(rt: HostRuntime) -> Result<(), Fail> {
         let mut desk = desk_with(rt.alloc(), WIRE.as_bytes())?;
         let status = run_words(&rt, rt.alloc(), line, &mut desk)?;
         holds(&rt, matches!(status, Status::Words(_)), line);
-        holds(&rt, desk.file("out.cert").is_none(), line);
+        writes_nothing(&rt, &desk);
         ends_saying(&rt, &status, &desk, 6, said);
     }
     Ok(())
@@ -357,63 +345,83 @@ fn a_refusal_says_what_is_wrong(rt: HostRuntime) -> Result<(), Fail> {
         let mut desk = desk_with(rt.alloc(), text.as_bytes())?;
         let status = run_with(&rt, rt.alloc(), "", &mut desk)?;
         ends_saying(&rt, &status, &desk, 1, said);
-        holds(&rt, desk.file("out.cert").is_none(), said);
+        writes_nothing(&rt, &desk);
     }
     Ok(())
 }
 
-// A call that fails, how much it keeps, what is told of it, the certificate, and what is said.
-const FAILING: &[(u64, u64, &str, Option<&str>, &str)] = &[
-    (1, 0, "net", None, ""),
-    (1, 1, "net", None, ""),
-    (1, 4096, "net", None, ""),
-    (2, 0, "cert", None, ""),
-    (2, 1, "cert", None, ""),
-    (2, 4096, "cert", None, ""),
-    (3, 0, "cert", Some(""), ""),
-    (3, 1, "cert", Some("b"), ""),
-    (3, 20, "cert", Some("bestagon cert 1\nlimi"), ""),
-    (3, 4096, "cert", Some(WIRE_CERT), ""),
-    (4, 0, "output", Some(WIRE_CERT), ""),
-    (4, 1, "output", Some(WIRE_CERT), "m"),
-    (4, 4096, "output", Some(WIRE_CERT), WIRE_REPORT),
+// A call that fails, how much it keeps, what is told of it, design and certificate, and what is said.
+const FAILING: &[(u64, u64, &str, Option<&str>, Option<&str>, &str)] = &[
+    (1, 0, "net", None, None, ""),
+    (1, 1, "net", None, None, ""),
+    (1, 4096, "net", None, None, ""),
+    (2, 0, "lib", None, None, ""),
+    (2, 1, "lib", None, None, ""),
+    (2, 4096, "lib", None, None, ""),
+    (3, 0, "design", None, None, ""),
+    (3, 1, "design", None, None, ""),
+    (3, 4096, "design", None, None, ""),
+    (4, 0, "design", Some(""), None, ""),
+    (4, 1, "design", Some("<"), None, ""),
+    (4, 4096, "design", Some(WIRE_DESIGN), None, ""),
+    (5, 0, "cert", Some(WIRE_DESIGN), None, ""),
+    (5, 1, "cert", Some(WIRE_DESIGN), None, ""),
+    (5, 4096, "cert", Some(WIRE_DESIGN), None, ""),
+    (6, 0, "cert", Some(WIRE_DESIGN), Some(""), ""),
+    (6, 1, "cert", Some(WIRE_DESIGN), Some("b"), ""),
+    (
+        6,
+        20,
+        "cert",
+        Some(WIRE_DESIGN),
+        Some("bestagon cert 1\nlimi"),
+        "",
+    ),
+    (6, 4096, "cert", Some(WIRE_DESIGN), Some(WIRE_CERT), ""),
+    (7, 0, "output", Some(WIRE_DESIGN), Some(WIRE_CERT), ""),
+    (7, 1, "output", Some(WIRE_DESIGN), Some(WIRE_CERT), "m"),
+    (
+        7,
+        4096,
+        "output",
+        Some(WIRE_DESIGN),
+        Some(WIRE_CERT),
+        WIRE_REPORT,
+    ),
 ];
 
-// The calls are one load, start, append and say.
+// The calls are two loads, start and append for each of two files, and one say.
 #[test]
 fn a_call_that_fails_is_told(rt: HostRuntime) -> Result<(), Fail> {
-    for &(call, kept, which, cert, said) in FAILING {
+    for &(call, kept, which, design, cert, said) in FAILING {
         let mut desk = desk_with(rt.alloc(), WIRE.as_bytes())?;
         desk.fail_at(call, kept)?;
         let status = run_with(&rt, rt.alloc(), "", &mut desk)?;
         is_text(&rt, blamed(&status), which, "what failed");
         ends_saying(&rt, &status, &desk, 4, said);
-        leaves(&rt, &desk, cert, WIRE);
+        has_file(&rt, &desk, "out.sqd", design);
+        has_file(&rt, &desk, "out.cert", cert);
     }
+    Ok(())
+}
+
+// No call stands behind these.
+#[test]
+fn no_other_call_is_made(rt: HostRuntime) -> Result<(), Fail> {
+    let mut desk = desk_with(rt.alloc(), WIRE.as_bytes())?;
+    desk.fail_at(8, 0)?;
+    let status = run_with(&rt, rt.alloc(), "", &mut desk)?;
+    ends_saying(&rt, &status, &desk, 0, WIRE_REPORT);
     Ok(())
 }
 
 // Words and a module that are refused, a call that fails, how much it keeps, what is told of it, and what is said.
 const FAILING_REFUSED: &[(&str, &str, u64, u64, &str, &str)] = &[
-    ("design net.v out.cert", "", 1, 0, "net", ""),
-    ("design net.v out.cert", "", 2, 0, "output", ""),
-    ("design net.v out.cert", "", 2, 7, "output", "refused"),
-    (
-        "design net.v out.cert",
-        "",
-        2,
-        4096,
-        "output",
-        "refused syntax 0\n",
-    ),
-    (
-        "design net.v out.cert",
-        "",
-        3,
-        0,
-        "none",
-        "refused syntax 0\n",
-    ),
+    (DESIGN, "", 1, 0, "net", ""),
+    (DESIGN, "", 2, 0, "output", ""),
+    (DESIGN, "", 2, 7, "output", "refused"),
+    (DESIGN, "", 2, 4096, "output", "refused syntax 0\n"),
+    (DESIGN, "", 3, 0, "none", "refused syntax 0\n"),
     ("design net.v", WIRE, 1, 0, "output", ""),
     ("design net.v", WIRE, 1, 13, "output", "refused words"),
     (
@@ -441,33 +449,55 @@ fn a_refusal_that_fails_is_told(rt: HostRuntime) -> Result<(), Fail> {
     Ok(())
 }
 
-// What a fault of the desk is about.
-fn blamed(status: &Status) -> &'static str {
-    match status {
-        Status::ReadFault(Which::NetFile) => "net",
-        Status::WriteFault(Which::CertFile) => "cert",
-        Status::WriteFault(Which::Output) => "output",
-        _ => "none",
-    }
-}
-
 #[test]
-fn a_certificate_without_a_place(rt: HostRuntime) -> Result<(), Fail> {
+fn files_without_a_place(rt: HostRuntime) -> Result<(), Fail> {
     let mut desk = desk_with(rt.alloc(), WIRE.as_bytes())?;
-    let status = run_words(&rt, rt.alloc(), "design net.v other.cert", &mut desk)?;
-    is_text(&rt, blamed(&status), "cert", "no place");
-    let is_untouched = desk.file("other.cert").is_none() && desk.said().is_empty();
-    holds(&rt, is_untouched, "nothing is written or said");
+    let line = "design net.v lib.json out.sqd other.cert";
+    let status = run_words(&rt, rt.alloc(), line, &mut desk)?;
+    is_text(&rt, blamed(&status), "cert", "no place for the certificate");
+    ends_saying(&rt, &status, &desk, 4, "");
+    has_file(&rt, &desk, "out.sqd", Some(WIRE_DESIGN));
+    has_file(&rt, &desk, "other.cert", None);
+    let mut desk = desk_with(rt.alloc(), WIRE.as_bytes())?;
+    let line = "design net.v lib.json other.sqd out.cert";
+    let status = run_words(&rt, rt.alloc(), line, &mut desk)?;
+    is_text(&rt, blamed(&status), "design", "no place for the design");
+    ends_saying(&rt, &status, &desk, 4, "");
+    has_file(&rt, &desk, "other.sqd", None);
+    has_file(&rt, &desk, "out.cert", None);
     Ok(())
 }
 
 #[test]
 fn a_file_that_is_missing_is_told(rt: HostRuntime) -> Result<(), Fail> {
-    let mut desk = MemDesk::new(rt.alloc());
-    desk.say_room(4096)?;
-    let status = run_words(&rt, rt.alloc(), "design other.v out.cert", &mut desk)?;
-    is_text(&rt, blamed(&status), "net", "a missing file");
-    holds(&rt, desk.said().is_empty(), "nothing is said");
+    let mut desk = desk_with(rt.alloc(), WIRE.as_bytes())?;
+    let line = "design other.v lib.json out.sqd out.cert";
+    let status = run_words(&rt, rt.alloc(), line, &mut desk)?;
+    is_text(&rt, blamed(&status), "net", "a missing module");
+    ends_saying(&rt, &status, &desk, 4, "");
+    let line = "design net.v other.json out.sqd out.cert";
+    let status = run_words(&rt, rt.alloc(), line, &mut desk)?;
+    is_text(&rt, blamed(&status), "lib", "a missing library");
+    ends_saying(&rt, &status, &desk, 4, "");
+    writes_nothing(&rt, &desk);
+    Ok(())
+}
+
+// The module's fault is told before the library's, which isn't looked at.
+#[test]
+fn the_module_is_read_first(rt: HostRuntime) -> Result<(), Fail> {
+    let mut desk = desk_of(rt.alloc(), b"", "{")?;
+    let line = "design net.v other.json out.sqd out.cert";
+    let status = run_words(&rt, rt.alloc(), line, &mut desk)?;
+    ends_saying(&rt, &status, &desk, 1, "refused syntax 0\n");
+    let status = run_with(&rt, rt.alloc(), "", &mut desk)?;
+    ends_saying(
+        &rt,
+        &status,
+        &desk,
+        1,
+        "refused syntax 0\nrefused syntax 0\n",
+    );
     Ok(())
 }
 
@@ -497,6 +527,53 @@ fn desk_of_spaces(alloc: Global, count: usize) -> Result<MemDesk, NoMemory> {
     desk_with(alloc, &spaces)
 }
 
+// The half adder, with so many workers.
+fn half_adder_with<R: Threads + Sync>(
+    rt: &R,
+    alloc: Global,
+    workers: u32,
+) -> Result<MemDesk, NoMemory> {
+    let mut desk = desk_with(alloc, HALF_ADDER.as_bytes())?;
+    let options = format!(in alloc; "--area 15 --budget 1000000 --workers {workers}")?;
+    run_with(rt, alloc, options.as_str(), &mut desk)?;
+    Ok(desk)
+}
+
+#[test]
+fn all_numbers_of_workers_give_the_same_bytes(rt: HostRuntime) -> Result<(), Fail> {
+    let one = half_adder_with(&rt, rt.alloc(), 1)?;
+    holds(&rt, one.file("out.sqd").is_some(), "a design");
+    for workers in [2, 4, 16] {
+        let desk = half_adder_with(&rt, rt.alloc(), workers)?;
+        let is_same = desk.file("out.sqd") == one.file("out.sqd")
+            && desk.file("out.cert") == one.file("out.cert");
+        holds(&rt, is_same, "the same files");
+        are_bytes(&rt, desk.said(), one.said(), "the same report");
+    }
+    Ok(())
+}
+
+// A conjunction, with sixteen workers.
+fn and_with<R: Threads + Sync>(rt: &R, alloc: Global) -> Result<MemDesk, NoMemory> {
+    let mut desk = desk_with(alloc, AND.as_bytes())?;
+    run_with(rt, alloc, "--workers 16", &mut desk)?;
+    Ok(desk)
+}
+
+#[test]
+fn many_runs_give_the_same_bytes(rt: HostRuntime) -> Result<(), Fail> {
+    let first = and_with(&rt, rt.alloc())?;
+    holds(&rt, first.file("out.sqd").is_some(), "a design");
+    for _ in 0..200 {
+        let desk = and_with(&rt, rt.alloc())?;
+        let is_same = desk.file("out.sqd") == first.file("out.sqd")
+            && desk.file("out.cert") == first.file("out.cert");
+        holds(&rt, is_same, "the same files");
+        are_bytes(&rt, desk.said(), first.said(), "the same report");
+    }
+    Ok(())
+}
+
 // How many `not` a chain has, and what is said of it within an area of 1.
 const COUNTED: &[(u32, &str)] = &[
     (94, "module m\nnodes 96 edges 95\nnone\n"),
@@ -522,49 +599,4 @@ fn chain_of_not(alloc: Global, count: u32) -> Result<String, NoMemory> {
     }
     text.push_str(format!(in alloc; " buf (y, n{count}); endmodule")?.as_str())?;
     Ok(text)
-}
-
-// A gate that counts how often it is entered and left.
-#[derive(Drop)]
-struct Counter {
-    entered: AtomicU64,
-    left: AtomicU64,
-}
-
-impl Gate for Counter {
-    fn enter(&self, _index: u64) {
-        self.entered.fetch_add(1, Ordering::SeqCst);
-    }
-
-    fn leave(&self, _index: u64) {
-        self.left.fetch_add(1, Ordering::SeqCst);
-    }
-}
-
-#[test]
-fn the_gate_is_not_entered_yet(rt: HostRuntime) -> Result<(), Fail> {
-    let gate = Counter {
-        entered: AtomicU64::new(0),
-        left: AtomicU64::new(0),
-    };
-    let code = code_with(&rt, rt.alloc(), &gate)?;
-    is_number(&rt, u64::from(code), 0, "status");
-    is_counted(&rt, &gate, 0);
-    gate.enter(3);
-    gate.leave(3);
-    is_counted(&rt, &gate, 1);
-    Ok(())
-}
-
-// The exit status of a run for an inverter, with this gate.
-fn code_with<R: Threads + Sync>(rt: &R, alloc: Global, gate: &Counter) -> Result<u8, NoMemory> {
-    let words = words(alloc, "design net.v out.cert")?;
-    let mut desk = desk_with(alloc, INVERTER.as_bytes())?;
-    Ok(run(rt, alloc, &words, &mut desk, gate).code())
-}
-
-// Asserts that a gate was entered and left so often.
-fn is_counted(rt: &impl Abort, gate: &Counter, wanted: u64) {
-    is_number(rt, gate.entered.load(Ordering::SeqCst), wanted, "entered");
-    is_number(rt, gate.left.load(Ordering::SeqCst), wanted, "left");
 }

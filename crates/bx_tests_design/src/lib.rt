@@ -12,4 +12,12 @@ mod design;
 #[cfg(test)]
 mod engine;
 #[cfg(test)]
+mod gate;
+#[cfg(test)]
+mod libraries;
+#[cfg(test)]
+mod library;
+#[cfg(test)]
+mod runs;
+#[cfg(test)]
 mod verdict;

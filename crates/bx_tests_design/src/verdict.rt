@@ -12,7 +12,8 @@ use bx_logic::NoMemory;
 use bx_network::MappedNet;
 use bx_proof::{Refutation, Steps};
 use bx_samples::{passing, without};
-use bx_verdict::{Ended, Last, MOST_SEARCH_BUDGET, Settled, judge, settle};
+use bx_search::Steady;
+use bx_verdict::{Ended, Last, MOST_SEARCH_BUDGET, Settled, Trial, judge, settle};
 use std::alloc::Global;
 use std::test::Fail;
 
@@ -46,8 +47,11 @@ fn judged(alloc: Global, ratio: Ratio, left_out: &[u8], budget: u64) -> Result<S
     if budget > MOST_SEARCH_BUDGET || !is_small(&net, ratio) {
         return Err("too much".into());
     }
-    let end = judge(alloc, &net, &without(left_out), ratio, budget)?;
-    Ok(line_of_end(alloc, &end)?)
+    let mut pulse = Steady::new();
+    match judge(alloc, &net, &without(left_out), ratio, budget, &mut pulse)? {
+        Trial::Ended(end) => Ok(line_of_end(alloc, &end)?),
+        Trial::Stopped => Err("stopped".into()),
+    }
 }
 
 // Whether formulas are made of this network on such a grid.

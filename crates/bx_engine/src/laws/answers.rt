@@ -1,6 +1,7 @@
-//! What an input gives is one answer: a status, the text of a file or none, and what is said. Nothing here runs.
+//! What an input gives is one answer: a status, the files that are written, and what is said. Nothing here runs.
 ghost use Rattle.std.specs.Prelude.{◌≡◌, ◌⊎◌, List, Some};
 ghost use Rattle.bx_desk.specs.Desk.{Files};
+ghost use Rattle.bx_library.specs.Tiles.{Tiles};
 ghost use Rattle.bx_syntax.specs.Parts.{ModuleTree};
 ghost use Rattle.bx_verilog.specs.Formulas.{Text};
 ghost use Rattle.bx_words.specs.Words.{first_fault};
@@ -8,29 +9,33 @@ ghost use Rattle.bx_words.specs.declared.faults.WordFault.{WordFault};
 ghost use Rattle.bx_engine.specs.declared.status.InputFault.{InputFault};
 ghost use Rattle.bx_engine.specs.Answers.{Answer, IsAnswer};
 ghost use Rattle.bx_engine.specs.Statuses.{IsSettled};
-ghost use Rattle.bx_engine.specs.Tasks.{Task, IsTask};
-ghost use Rattle.bx_engine.specs.Texts.{IsRefused, IsTaken};
+ghost use Rattle.bx_engine.specs.Tasks.{Task, Inputs, IsTask, inputs_of};
+ghost use Rattle.bx_engine.specs.Texts.{IsRefused, IsTaken, IsRefusedLibrary, IsTakenLibrary, AreRefused, AreTaken};
 
-/// Words and files have one answer, and nothing of the files counts but the text of the one that the words name.
+/// Words and what is read for them have one answer, and nothing of the files counts but the texts of those two that the
+/// words name to be read.
 pub fn an_input_has_one_answer()
-    ensures one { (words : List Text) (files : Files) (one other : Answer)
-        → IsAnswer words files one → IsAnswer words files other → one ≡ other }
+    ensures one { (words : List Text) (inputs : Task → Inputs) (one other : Answer)
+        → IsAnswer words inputs one → IsAnswer words inputs other → one ≡ other }
     ensures named { (words : List Text) (files others : Files) (answer : Answer)
-        → ((task : Task) → IsTask words task → others task.net ≡ files task.net)
-        → IsAnswer words files answer → IsAnswer words others answer }
+        → ((task : Task) → IsTask words task → (others task.net ≡ files task.net)
+        × (others task.lib ≡ files task.lib))
+        → IsAnswer words (inputs_of files) answer → IsAnswer words (inputs_of others) answer }
 {}
 
-/// There is an answer: words that are misused have one, and so have those that ask for a task, where the file of its
-/// module is there.
+/// There is an answer: words that are misused have one, and so have those that ask for a task, where the files of its
+/// module and of its library are there, and the library is refused or taken.
 pub fn an_input_has_an_answer()
-    ensures misused { (words : List Text) (files : Files) (fault : WordFault)
-        → first_fault words ≡ Some fault → (answer : Answer) × IsAnswer words files answer }
-    ensures asked { (words : List Text) (files : Files) (task : Task) (text : Text)
-        → IsTask words task → files task.net ≡ Some text
-        → (answer : Answer) × IsAnswer words files answer }
+    ensures misused { (words : List Text) (inputs : Task → Inputs) (fault : WordFault)
+        → first_fault words ≡ Some fault → (answer : Answer) × IsAnswer words inputs answer }
+    ensures asked { (words : List Text) (files : Files) (task : Task) (text lib : Text)
+        → IsTask words task → files task.net ≡ Some text → files task.lib ≡ Some lib
+        → ((fault : InputFault) × IsRefusedLibrary lib fault)
+        ⊎ ((book : Tiles) × IsTakenLibrary lib book)
+        → (answer : Answer) × IsAnswer words (inputs_of files) answer }
 {}
 
-/// Each text is refused for some fault, or taken as that of some module, and not both; the fault is one, and so is the
+/// Each text of a module is refused for some fault, or taken as that of some module, and not both; the fault is one, and so is the
 /// module.
 pub fn each_text_is_refused_or_taken()
     ensures some { (text : Text)
@@ -43,8 +48,28 @@ pub fn each_text_is_refused_or_taken()
         → IsTaken text other → one ≡ other }
 {}
 
+/// The text of a library is refused for one fault at most, or taken as one library, and not both.
+pub fn a_library_is_refused_or_taken()
+    ensures not_both { (text : Text) (lib : Tiles) (fault : InputFault) → IsTakenLibrary text lib
+        → IsRefusedLibrary text fault → ⊥ }
+    ensures fault { (text : Text) (one other : InputFault) → IsRefusedLibrary text one
+        → IsRefusedLibrary text other → one ≡ other }
+    ensures one_library { (text : Text) (one other : Tiles) → IsTakenLibrary text one
+        → IsTakenLibrary text other → one ≡ other }
+{}
+
+/// What is read for a task is refused for one fault, or taken as one module and one library, and not both.
+pub fn inputs_are_refused_or_taken()
+    ensures not_both { (inputs : Inputs) (m : ModuleTree) (lib : Tiles) (fault : InputFault)
+        → AreTaken inputs m lib → AreRefused inputs fault → ⊥ }
+    ensures fault { (inputs : Inputs) (one other : InputFault) → AreRefused inputs one
+        → AreRefused inputs other → one ≡ other }
+    ensures taken { (inputs : Inputs) (m n : ModuleTree) (lib other : Tiles)
+        → AreTaken inputs m lib → AreTaken inputs n other → (m ≡ n) × (lib ≡ other) }
+{}
+
 /// No answer is want of memory or a fault of reading or writing.
 pub fn an_answer_is_settled()
-    ensures { (words : List Text) (files : Files) (answer : Answer) → IsAnswer words files answer
-        → IsSettled answer.status }
+    ensures { (words : List Text) (inputs : Task → Inputs) (answer : Answer)
+        → IsAnswer words inputs answer → IsSettled answer.status }
 {}

@@ -1,4 +1,4 @@
-//! What a desk that tells its files shows of a file that was written. Nothing here runs.
+//! What a desk that tells its files shows of files that were written. Nothing here runs.
 ghost use Rattle.std.specs.Prelude.{◌≡◌, ◌≢◌, Some};
 ghost use Rattle.bx_desk.specs.Desk.{DeskState, Files};
 ghost use Rattle.bx_verilog.specs.Formulas.{Text};

@@ -4,6 +4,7 @@ ghost use Rattle.std.specs.Prelude.{◌≡◌, List, Option, Some};
 ghost use Rattle.bx_cert.specs.Certs.{Certificate};
 ghost use Rattle.bx_cert.specs.declared.parts.CertLast.{CertLast};
 ghost use Rattle.bx_design.specs.declared.solution.LaidOut.{LaidOut};
+ghost use Rattle.bx_library.specs.Tiles.{Tiles};
 ghost use Rattle.bx_logic.specs.Nets.{Netlist};
 ghost use Rattle.bx_network.specs.Networks.{Network};
 ghost use Rattle.bx_says.specs.Reports.{IsReportable, report_of};
@@ -21,8 +22,8 @@ ghost use Rattle.bx_engine.specs.Texts.{IsTaken, network_of};
 /// tiles.
 pub fn what_is_reported_can_be_told_apart()
     ensures { (words : List Text) (task : Task) (text : Text) (m : ModuleTree)
-        (cert : Certificate) (laid : LaidOut)
-        → IsTask words task → IsTaken text m → Solves task m cert (Some laid)
+        (lib : Tiles) (cert : Certificate) (laid : LaidOut)
+        → IsTask words task → IsTaken text m → Solves task m lib cert (Some laid)
         → IsReportable (report_of (net_of m) (network_of m) laid.layout.places laid.grid) }
 {}
 

@@ -1,5 +1,5 @@
 use Rattle.bx_words.specs.Verbs.{texts}
-use Rattle.bx_engine.proofs.Clauses.{answered, exact, words_only, words_all, words_said, refused_only, refused, refused_said, searched_only, taken_solved, searched, found, undecided, none_within, there, settled_no_fault, read_fault, faults_rose, complete, no_memory_stays, write_fault, none_fell, others_stay}
+use Rattle.bx_engine.proofs.Clauses.{answered, exact, words_only, words_all, words_said, refused_only, refused, refused_said, searched_only, taken_solved, searched, found, undecided, none_within, there, library_there, settled_no_fault, read_fault, read_rose, write_rose, complete, no_memory_stays, write_fault, none_fell, others_stay, unwritten_stay}
 use Rattle.bx_engine.proofs.engine.run.Goals as goal
 
 pub returns-clause-answered : goal.returns-clause-answered
@@ -18,34 +18,37 @@ pub returns-clause-words_said : goal.returns-clause-words_said
 returns-clause-words_said g c = words_said (texts c.args.words.now) (g.D.Desk.state c.args.desk.now) (g.D.Desk.state c.serve.new.desk) c.serve.result c.serve.ensures
 
 pub returns-clause-refused_only : goal.returns-clause-refused_only
-returns-clause-refused_only g c = λ fault e task text told. refused_only (texts c.args.words.now) (g.D.Desk.state c.args.desk.now) (g.D.Desk.state c.serve.new.desk) task text told c.serve.result c.serve.ensures fault e
+returns-clause-refused_only g c = λ fault e task files asks told. refused_only (texts c.args.words.now) (g.D.Desk.state c.args.desk.now) (g.D.Desk.state c.serve.new.desk) task files asks told c.serve.result c.serve.ensures fault e
 
 pub returns-clause-refused : goal.returns-clause-refused
-returns-clause-refused g c = λ settled task text told fault h. refused (texts c.args.words.now) (g.D.Desk.state c.args.desk.now) (g.D.Desk.state c.serve.new.desk) task text told c.serve.result c.serve.ensures settled fault h
+returns-clause-refused g c = λ settled task files asks told fault h. refused (texts c.args.words.now) (g.D.Desk.state c.args.desk.now) (g.D.Desk.state c.serve.new.desk) task files asks told c.serve.result c.serve.ensures settled fault h
 
 pub returns-clause-refused_said : goal.returns-clause-refused_said
 returns-clause-refused_said g c = refused_said (texts c.args.words.now) (g.D.Desk.state c.args.desk.now) (g.D.Desk.state c.serve.new.desk) c.serve.result c.serve.ensures
 
 pub returns-clause-searched_only : goal.returns-clause-searched_only
-returns-clause-searched_only g c = λ is task text told. searched_only (texts c.args.words.now) (g.D.Desk.state c.args.desk.now) (g.D.Desk.state c.serve.new.desk) task text told c.serve.result c.serve.ensures is
+returns-clause-searched_only g c = λ is task files asks told. searched_only (texts c.args.words.now) (g.D.Desk.state c.args.desk.now) (g.D.Desk.state c.serve.new.desk) task files asks told c.serve.result c.serve.ensures is
 
 pub returns-clause-taken : goal.returns-clause-taken
-returns-clause-taken g c = λ settled task text told. taken_solved (texts c.args.words.now) (g.D.Desk.state c.args.desk.now) (g.D.Desk.state c.serve.new.desk) task text told c.serve.result c.serve.ensures settled
+returns-clause-taken g c = λ settled task files asks told m lib are. taken_solved (texts c.args.words.now) (g.D.Desk.state c.args.desk.now) (g.D.Desk.state c.serve.new.desk) task files asks told c.serve.result c.serve.ensures settled m lib are
 
 pub returns-clause-searched : goal.returns-clause-searched
-returns-clause-searched g c = λ settled task text told. searched (texts c.args.words.now) (g.D.Desk.state c.args.desk.now) (g.D.Desk.state c.serve.new.desk) task text told c.serve.result c.serve.ensures settled
+returns-clause-searched g c = λ settled task files asks told m lib are cert layout solves. searched (texts c.args.words.now) (g.D.Desk.state c.args.desk.now) (g.D.Desk.state c.serve.new.desk) task files asks told m lib are c.serve.result c.serve.ensures settled cert layout solves
 
 pub returns-clause-found : goal.returns-clause-found
-returns-clause-found g c = λ ratio e task text told m taken. found (texts c.args.words.now) (g.D.Desk.state c.args.desk.now) (g.D.Desk.state c.serve.new.desk) task text told m taken c.serve.result c.serve.ensures ratio e
+returns-clause-found g c = λ ratio e task files asks told m lib are. found (texts c.args.words.now) (g.D.Desk.state c.args.desk.now) (g.D.Desk.state c.serve.new.desk) task files asks told m lib are c.serve.result c.serve.ensures ratio e
 
 pub returns-clause-undecided : goal.returns-clause-undecided
-returns-clause-undecided g c = λ ratio spent e task text told m taken. undecided (texts c.args.words.now) (g.D.Desk.state c.args.desk.now) (g.D.Desk.state c.serve.new.desk) task text told m taken c.serve.result c.serve.ensures ratio spent e
+returns-clause-undecided g c = λ ratio spent e task files asks told m lib are. undecided (texts c.args.words.now) (g.D.Desk.state c.args.desk.now) (g.D.Desk.state c.serve.new.desk) task files asks told m lib are c.serve.result c.serve.ensures ratio spent e
 
 pub returns-clause-none_within : goal.returns-clause-none_within
-returns-clause-none_within g c = λ e task text told m taken. none_within (texts c.args.words.now) (g.D.Desk.state c.args.desk.now) (g.D.Desk.state c.serve.new.desk) task text told m taken c.serve.result c.serve.ensures e
+returns-clause-none_within g c = λ e task files asks told m lib are. none_within (texts c.args.words.now) (g.D.Desk.state c.args.desk.now) (g.D.Desk.state c.serve.new.desk) task files asks told m lib are c.serve.result c.serve.ensures e
 
 pub returns-clause-there : goal.returns-clause-there
 returns-clause-there g c = there (texts c.args.words.now) (g.D.Desk.state c.args.desk.now) (g.D.Desk.state c.serve.new.desk) c.serve.result c.serve.ensures
+
+pub returns-clause-library_there : goal.returns-clause-library_there
+returns-clause-library_there g c = library_there (texts c.args.words.now) (g.D.Desk.state c.args.desk.now) (g.D.Desk.state c.serve.new.desk) c.serve.result c.serve.ensures
 
 pub returns-clause-settled_no_fault : goal.returns-clause-settled_no_fault
 returns-clause-settled_no_fault g c = settled_no_fault (texts c.args.words.now) (g.D.Desk.state c.args.desk.now) (g.D.Desk.state c.serve.new.desk) c.serve.result c.serve.ensures
@@ -53,8 +56,11 @@ returns-clause-settled_no_fault g c = settled_no_fault (texts c.args.words.now) 
 pub returns-clause-read_fault : goal.returns-clause-read_fault
 returns-clause-read_fault g c = read_fault (texts c.args.words.now) (g.D.Desk.state c.args.desk.now) (g.D.Desk.state c.serve.new.desk) c.serve.result c.serve.ensures
 
-pub returns-clause-faults_rose : goal.returns-clause-faults_rose
-returns-clause-faults_rose g c = faults_rose (texts c.args.words.now) (g.D.Desk.state c.args.desk.now) (g.D.Desk.state c.serve.new.desk) c.serve.result c.serve.ensures
+pub returns-clause-read_rose : goal.returns-clause-read_rose
+returns-clause-read_rose g c = read_rose (texts c.args.words.now) (g.D.Desk.state c.args.desk.now) (g.D.Desk.state c.serve.new.desk) c.serve.result c.serve.ensures
+
+pub returns-clause-write_rose : goal.returns-clause-write_rose
+returns-clause-write_rose g c = write_rose (texts c.args.words.now) (g.D.Desk.state c.args.desk.now) (g.D.Desk.state c.serve.new.desk) c.serve.result c.serve.ensures
 
 pub returns-clause-complete : goal.returns-clause-complete
 returns-clause-complete g c = complete (texts c.args.words.now) (g.D.Desk.state c.args.desk.now) (g.D.Desk.state c.serve.new.desk) c.serve.result c.serve.ensures
@@ -70,3 +76,6 @@ returns-clause-none_fell g c = none_fell (texts c.args.words.now) (g.D.Desk.stat
 
 pub returns-clause-others_stay : goal.returns-clause-others_stay
 returns-clause-others_stay g c = others_stay (texts c.args.words.now) (g.D.Desk.state c.args.desk.now) (g.D.Desk.state c.serve.new.desk) c.serve.result c.serve.ensures
+
+pub returns-clause-unwritten_stay : goal.returns-clause-unwritten_stay
+returns-clause-unwritten_stay g c = unwritten_stay (texts c.args.words.now) (g.D.Desk.state c.args.desk.now) (g.D.Desk.state c.serve.new.desk) c.serve.result c.serve.ensures

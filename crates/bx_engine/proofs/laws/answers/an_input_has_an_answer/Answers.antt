@@ -5,4 +5,4 @@ pub returns-clause-misused : goal.returns-clause-misused
 returns-clause-misused c = some_refusal
 
 pub returns-clause-asked : goal.returns-clause-asked
-returns-clause-asked c = λ words files task text asks there. some_answer words files task text asks there
+returns-clause-asked c = λ words files task text book asks there has each. some_answer words files task text book asks there has each

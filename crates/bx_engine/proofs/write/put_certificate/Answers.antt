@@ -1,5 +1,5 @@
 use Rattle.bx_engine.proofs.Endings.{can_write, file_ends, file_ends_failed}
-use Rattle.bx_engine.proofs.engine.put_file.Goals as goal
+use Rattle.bx_engine.proofs.write.put_certificate.Goals as goal
 
 pub write_cert-requires : goal.write_cert-requires
 write_cert-requires g c = can_write c.to_file-piece.result (g.D.Desk.state c.args.desk.now) c.to_file-piece.ensures.target c.requires

@@ -1,5 +1,5 @@
 use Rattle.bx_engine.proofs.Endings.{says_ends, says_ends_failed}
-use Rattle.bx_engine.proofs.engine.refuse.Goals as goal
+use Rattle.bx_engine.proofs.say.refuse.Goals as goal
 
 pub returns-in-Ok : goal.returns-in-Ok
 returns-in-Ok g c = says_ends _ _ _ _ _ _ _ _ _ _ c.to_say-piece.ensures.empty c.to_say-piece.ensures.target c.in-Ok.is c.put_fault.ensures c.end_saying.ensures

@@ -1,0 +1,4 @@
+pub mod Traced
+pub mod Known
+pub mod Passing
+pub mod Twins

@@ -1,0 +1,8 @@
+mod Offs
+mod Permits
+mod Unproved
+mod Parts
+mod Stages
+mod Judging
+mod Meanings
+mod Exact

@@ -1,0 +1,5 @@
+pub mod Failing
+pub mod Sections
+pub mod Cutting
+pub mod Answers
+pub mod Meaning

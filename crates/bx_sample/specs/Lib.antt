@@ -1,0 +1,5 @@
+pub mod Draws
+pub mod Gates
+pub mod Signals
+pub mod Samples
+pub mod Library

@@ -10,6 +10,8 @@ mod dots;
 #[cfg(test)]
 mod library;
 #[cfg(test)]
+mod pictures;
+#[cfg(test)]
 mod sample;
 #[cfg(test)]
 mod says;

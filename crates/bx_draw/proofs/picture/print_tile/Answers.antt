@@ -1,0 +1,6 @@
+use Rattle.bx_desk.proofs.Printing.{prints_as}
+use Rattle.bx_draw.proofs.Drawn.{tile_drawn}
+use Rattle.bx_draw.proofs.picture.print_tile.Goals as goal
+
+pub returns : goal.returns
+returns g c = prints_as (tile_drawn c.args.x c.args.y _ _ c.args.tile c.symbol_of.ensures c.middle.ensures) c.words.ensures

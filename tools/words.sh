@@ -1,9 +1,10 @@
 # Sourced by ./bestagon and tools/explain: which files the words of a command name.
 
-# Sets `net` and `cert` to the first two words behind the command that are no options. Up to a word `--` an
-# option takes the word behind it, where it has no `=`.
+# Sets `names` to the words behind the command that are no options, and `net`, `lib`, `design` and `cert` to the
+# first four. Up to a word `--` an option takes the word behind it, where it has no `=`.
 find_files() {
-    local word value= ended= names=()
+    local word value= ended=
+    names=()
     for word in "${@:2}"; do
         if [[ -n $value ]]; then
             value=
@@ -15,11 +16,24 @@ find_files() {
             names+=("$word")
         fi
     done
-    net=${names[0]-} cert=${names[1]-}
+    net=${names[0]-} lib=${names[1]-} design=${names[2]-} cert=${names[3]-}
 }
 
-# Whether the words ask for a design whose CERT is the file NET, under another name.
-is_one_file() {
+# Whether by the words of `design` a file is written that is another of the four, by this name or another one. It sets
+# `file` and `other` to what the usage calls the two, and `paths` to their names.
+find_clash() {
+    local pair
+    local -A path whole
     find_files "$@"
-    [[ ${1-} == design && -n $net && -n $cert && $net != "$cert" && $net -ef $cert ]]
+    [[ ${1-} == design && ${#names[@]} -eq 4 ]] || return
+    path=([NET]=$net [LIB]=$lib [DESIGN]=$design [CERT]=$cert)
+    for file in "${!path[@]}"; do
+        whole[$file]=$(readlink -m -- "${path[$file]}" 2>/dev/null)
+    done
+    for pair in 'DESIGN NET' 'DESIGN LIB' 'CERT NET' 'CERT LIB' 'CERT DESIGN'; do
+        read -r file other <<<"$pair"
+        paths=("${path[$file]}" "${path[$other]}")
+        [[ ${whole[$file]} == "${whole[$other]}" || ${paths[0]} -ef ${paths[1]} ]] && return
+    done
+    return 1
 }

@@ -8,3 +8,4 @@ pub mod Stopping
 pub mod Runs
 pub mod Cuts
 pub mod Readers
+pub mod Deciding

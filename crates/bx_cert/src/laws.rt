@@ -1,6 +1,6 @@
 //! Laws about the definitions alone, each the clause of a function with an empty body. Nothing here
 //! runs.
-ghost use Rattle.std.specs.Prelude.{◌≡◌, ℕ, List};
+ghost use Rattle.std.specs.Prelude.{◌≡◌, ◌⊎◌, ℕ, List};
 ghost use Rattle.bx_grid.specs.declared.ratio.TheConstants.{MOST_LIMIT};
 ghost use Rattle.bx_lines.specs.Lines.{IsFirstBadLine};
 ghost use Rattle.bx_cert.specs.declared.parts.TheConstants.{MOST_CERT_BUDGET};
@@ -22,6 +22,12 @@ pub fn a_text_of_a_certificate_has_no_bad_line()
         → IsFirstBadLine IsCertText bytes k → j ≡ k }
     ensures none { (bytes : List ℕ) (k : ℕ) → IsCertText bytes → IsFirstBadLine IsCertText bytes k
         → ⊥ }
+{}
+
+/// Bytes are the text of a certificate, or they have a first bad line.
+pub fn bytes_are_a_certificate_or_have_a_bad_line()
+    ensures { (bytes : List ℕ) → IsCertText bytes
+        ⊎ ((k : ℕ) × IsFirstBadLine IsCertText bytes k) }
 {}
 
 /// The most that a side or a limit is, and the most that a budget is.

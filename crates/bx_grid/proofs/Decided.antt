@@ -2,6 +2,8 @@
 -- any bound, or none.
 use Rattle.std.proofs.Common.{◌≡◌, ◌⊎◌, ◌↔◌, ℕ, zero, suc, ◌<◌, ◌≤◌, inl, inr, subst, arith}
 use Rattle.std.proofs.lemmas.Bool.{cases_lt}
+use Rattle.bx_grid.specs.declared.ratio.Ratio.{Ratio}
+use Rattle.bx_grid.specs.Orders.{IsRatio}
 
 abbrev pub Decided : Type 0 → Type 0
 Decided P = P ⊎ (P → ⊥)
@@ -40,3 +42,31 @@ find P dec (suc n) = elim (find P dec n) [
     ])
   ]
 ]
+
+-- of a sort in which all are below a bound there is one, or none
+pub some-number : (bound : ℕ) (P : ℕ → Type 0) → ((n : ℕ) → Decided (P n)) → ((n : ℕ) → P n → n < bound) → Decided ((n : ℕ) × P n)
+some-number bound P dec low = elim (find P dec bound) [
+  | inl (n, p, before) ↦ inl (n, p)
+  | inr none ↦ inr (λ (n, p). none n (low n p) p)
+]
+
+-- ---- ratios
+
+pub is-ratio : (r : Ratio) → Decided (IsRatio r)
+is-ratio r =
+    same ((1 ≤ r.w) × ((1 ≤ r.h) × ((r.w ≤ 144) × (r.h ≤ 144)))) (IsRatio r) (
+      (λ h. record { some_width = h.0; some_height = h.1.0; width = h.1.1.0; height = h.1.1.1 }),
+      (λ is. (is.some_width, (is.some_height, (is.width, is.height)))),
+    )
+    (both _ _ (at-most 1 r.w) (both _ _ (at-most 1 r.h) (both _ _ (at-most r.w 144) (at-most r.h 144))))
+
+abbrev sides : ℕ → ℕ → Ratio
+sides w h = record { w = w; h = h }
+
+pub some-ratio : (P : Ratio → Type 0) → ((r : Ratio) → Decided (P r)) → ((r : Ratio) → P r → IsRatio r) → Decided ((r : Ratio) × P r)
+some-ratio P dec are =
+    same ((w : ℕ) × ((h : ℕ) × P (sides w h))) ((r : Ratio) × P r)
+    ((λ (w, (h, p)). (sides w h, p)), (λ (r, p). (r.w, (r.h, p))))
+    (some-number 145 (λ w. (h : ℕ) × P (sides w h))
+    (λ w. some-number 145 (λ h. P (sides w h)) (λ h. dec (sides w h)) (λ h p. let most : h ≤ 144 = (are (sides w h) p).height in omega arith))
+    (λ w (h, p). let most : w ≤ 144 = (are (sides w h) p).width in omega arith))

@@ -3,3 +3,4 @@ pub mod BadLines
 pub mod Numbers
 pub mod Stuck
 pub mod Above
+pub mod Deciding

@@ -4,3 +4,4 @@ pub mod Numbers
 pub mod StepLines
 pub mod LogGrammar
 pub mod OneLog
+pub mod Deciding

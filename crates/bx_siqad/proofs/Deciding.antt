@@ -1,30 +1,21 @@
 -- Bytes are the text of a design, or they have a first bad line: each step of reading is decided.
-use Rattle.std.proofs.Common.{◌≡◌, ◌⊎◌, ℕ, zero, suc, ◌+◌, ◌<◌, ◌≤◌, true, List, [], ◌∷◌, ◌++◌, length, map, Ordering, Less, Equal, Greater, inl, inr, refl, sym, ap, ◌∙◌, arith, append_assoc, length-append}
-use Rattle.std.proofs.lemmas.Bool.{cases_eq}
+use Rattle.std.proofs.Common.{◌≡◌, ◌⊎◌, ℕ, zero, suc, ◌+◌, ◌≤◌, true, List, [], ◌∷◌, ◌++◌, length, map, Ordering, Less, Equal, Greater, inl, inr, refl, sym, ap, ◌∙◌, arith, append_assoc}
 use Rattle.std.specs.List.{AllByRecursion}
 use Rattle.std.specs.List.Sorted.{IsStrictlySortedBy}
 use Rattle.bx_grid.specs.declared.ratio.Ratio.{Ratio}
 use Rattle.bx_grid.specs.Orders.{IsRatio}
-use Rattle.bx_grid.proofs.Decided.{Decided, both, same, less, at-most, find}
+use Rattle.bx_grid.proofs.Decided.{Decided, both, same, at-most, some-number, is-ratio, some-ratio}
 use Rattle.bx_library.specs.declared.dot.Dot.{Dot}
 use Rattle.bx_library.specs.Dots.{IsAscending, dot_cmp}
 use Rattle.bx_library.proofs.DotSets.{ascending_from_sorted, sorted_from_ascending}
 use Rattle.bx_lines.specs.Lines.{ended, text_of, IsFirstBadLine}
 use Rattle.bx_lines.proofs.Above.{all_append}
+use Rattle.bx_lines.proofs.Deciding.{Behind, behind-decided, shorter}
 use Rattle.bx_siqad.specs.Designs.{IsDot}
 use Rattle.bx_siqad.specs.Texts.{front_lines, middle_lines, back_lines, ratio_line, dot_line, head_lines, design_lines, IsDesignText}
 use Rattle.bx_siqad.specs.Readings.{IsRatioAt, IsDotAt, StopsWithin, AreDotsAt, IsDisorderAt}
 use Rattle.bx_siqad.specs.declared.fault.DesignFault.TheVariants.{BadDesign}
 use Rattle.bx_siqad.proofs.Stops.{drawing_of, ratio_front, front_reads, no_ratio_reads, middle_reads, disorder_reads, back_reads, behind_last_reads, whole_reads, ratio_split, head_split, dots_split, design_split, dots_more}
-
--- bytes begin with a word, or they don't
-behind-decided : (word bytes : List ℕ) → Decided ((rest : List ℕ) × (bytes ≡ word ++ rest))
-behind-decided [] bytes = inl (bytes, refl)
-behind-decided (w ∷ ws) [] = inr (λ (rest, e). cc)
-behind-decided (w ∷ ws) (b ∷ bs) =
-    same ((b ≡ w) × ((rest : List ℕ) × (bs ≡ ws ++ rest))) ((rest : List ℕ) × (b ∷ bs ≡ w ∷ (ws ++ rest)))
-    ((λ (e, (rest, is)). (rest, cc)), (λ (rest, e). (cc, (rest, cc))))
-    (both _ _ (cases_eq b w) (behind-decided ws bs))
 
 -- these lines stand at the front, or so many of them
 lines-decided : (lines : List (List ℕ)) (bytes : List ℕ) → ((rest : List ℕ) × (bytes ≡ text_of lines ++ rest)) ⊎ ((count : ℕ) × StopsWithin lines bytes count)
@@ -45,48 +36,20 @@ lines-decided (l ∷ ls) bytes = elim (behind-decided (ended l) bytes) [
   | inr never ↦ inr (0, record { within = omega arith; rest = bytes; spelled = refl; no_next = λ behind e. never (behind, e) })
 ]
 
--- some number below a bound is of a sort that is decided, or none is
-some-below : (P : ℕ → Type 0) → ((k : ℕ) → Decided (P k)) → (n : ℕ) → Decided ((k : ℕ) × ((k < n) × P k))
-some-below P decided n = elim (find (λ k. (k < n) × P k) (λ k. both _ _ (less k n) (decided k)) n) [
-  | inl (k, is, before) ↦ inl (k, is)
-  | inr none ↦ inr (λ (k, is). none k is.0 is)
-]
-
 -- a line of a sort stands at the front, or it doesn't
-line-decided : (Said : Type 0) (line bytes : List ℕ) → Decided Said → Decided (Said × ((rest : List ℕ) × (bytes ≡ ended line ++ rest)))
+line-decided : (Said : Type 0) (line bytes : List ℕ) → Decided Said → Decided (Said × Behind (ended line) bytes)
 line-decided Said line bytes said = both _ _ said (behind-decided (ended line) bytes)
-
--- ---- the sides
 
 abbrev SidesAt : List ℕ → Type 0
 SidesAt bytes = (ratio : Ratio) × ((rest : List ℕ) × IsRatioAt bytes ratio rest)
 
-abbrev sides : ℕ → ℕ → Ratio
-sides w h = record { w = w; h = h }
-
-abbrev AreSidesAt : List ℕ → ℕ → ℕ → Type 0
-AreSidesAt bytes w h = IsRatio (sides w h) × ((rest : List ℕ) × (bytes ≡ ended (ratio_line (sides w h)) ++ rest))
-
-ratio-decided : (r : Ratio) → Decided (IsRatio r)
-ratio-decided r =
-    same ((1 ≤ r.w) × ((1 ≤ r.h) × ((r.w ≤ 144) × (r.h ≤ 144)))) (IsRatio r) (
-      (λ h. record { some_width = h.0; some_height = h.1.0; width = h.1.1.0; height = h.1.1.1 }),
-      (λ is. (is.some_width, (is.some_height, (is.width, is.height)))),
-    )
-    (both _ _ (at-most 1 r.w) (both _ _ (at-most 1 r.h) (both _ _ (at-most r.w 144) (at-most r.h 144))))
-
 sides-decided : (bytes : List ℕ) → Decided (SidesAt bytes)
 sides-decided bytes =
-    same ((w : ℕ) × ((w < 145) × ((h : ℕ) × ((h < 145) × AreSidesAt bytes w h)))) (SidesAt bytes) (
-      (λ (w, (low, (h, (lower, (is, (rest, e)))))). (sides w h, (rest, record { is = is; spelled = e }))),
-      (λ (r, (rest, at)).
-          let wide : r.w ≤ 144 = at.is.width in
-          let high : r.h ≤ 144 = at.is.height in
-          (r.w, (omega arith, (r.h, (omega arith, (at.is, (rest, at.spelled))))))),
-    )
-    (some-below (λ w. (h : ℕ) × ((h < 145) × AreSidesAt bytes w h))
-    (λ w. some-below (AreSidesAt bytes w) (λ h. line-decided (IsRatio (sides w h)) (ratio_line (sides w h)) bytes (ratio-decided (sides w h))) 145)
-    145)
+    some-ratio (λ r. (rest : List ℕ) × IsRatioAt bytes r rest)
+    (λ r. same (IsRatio r × Behind (ended (ratio_line r)) bytes) ((rest : List ℕ) × IsRatioAt bytes r rest)
+    ((λ (is, (rest, e)). (rest, record { is = is; spelled = e })), (λ (rest, at). (at.is, (rest, at.spelled))))
+    (line-decided (IsRatio r) (ratio_line r) bytes (is-ratio r)))
+    (λ r (rest, at). at.is)
 
 -- ---- the dots
 
@@ -96,9 +59,6 @@ DotAt bytes = (dot : Dot) × ((rest : List ℕ) × IsDotAt bytes dot rest)
 abbrev dot_of : ℕ → ℕ → ℕ → Dot
 dot_of n m l = record { m = m; l = l; n = n }
 
-abbrev IsThereAt : List ℕ → ℕ → ℕ → ℕ → Type 0
-IsThereAt bytes n m l = IsDot (dot_of n m l) × ((rest : List ℕ) × (bytes ≡ ended (dot_line (dot_of n m l)) ++ rest))
-
 in-range : (dot : Dot) → Decided (IsDot dot)
 in-range dot =
     same ((dot.n ≤ 99999) × ((dot.m ≤ 99999) × (dot.l ≤ 1))) (IsDot dot)
@@ -107,19 +67,21 @@ in-range dot =
 
 dot-decided : (bytes : List ℕ) → Decided (DotAt bytes)
 dot-decided bytes =
-    same ((n : ℕ) × ((n < 100000) × ((m : ℕ) × ((m < 100000) × ((l : ℕ) × ((l < 2) × IsThereAt bytes n m l)))))) (DotAt bytes) (
-      (λ (n, (n_low, (m, (m_low, (l, (l_low, (is, (rest, e)))))))). (dot_of n m l, (rest, record { is = is; spelled = e }))),
-      (λ (dot, (rest, at)).
-          let n_most : dot.n ≤ 99999 = at.is.n in
-          let m_most : dot.m ≤ 99999 = at.is.m in
-          let l_most : dot.l ≤ 1 = at.is.l in
-          (dot.n, (omega arith, (dot.m, (omega arith, (dot.l, (omega arith, (at.is, (rest, at.spelled))))))))),
+    same ((n : ℕ) × ((m : ℕ) × ((l : ℕ) × There n m l))) (DotAt bytes) (
+      (λ (n, (m, (l, (is, (rest, e))))). (dot_of n m l, (rest, record { is = is; spelled = e }))),
+      (λ (dot, (rest, at)). (dot.n, (dot.m, (dot.l, (at.is, (rest, at.spelled)))))),
     )
-    (some-below (λ n. (m : ℕ) × ((m < 100000) × ((l : ℕ) × ((l < 2) × IsThereAt bytes n m l))))
-    (λ n. some-below (λ m. (l : ℕ) × ((l < 2) × IsThereAt bytes n m l))
-    (λ m. some-below (IsThereAt bytes n m) (λ l. line-decided (IsDot (dot_of n m l)) (dot_line (dot_of n m l)) bytes (in-range (dot_of n m l))) 2)
-    100000)
-    100000)
+    (some-number 100000 (λ n. (m : ℕ) × ((l : ℕ) × There n m l))
+    (λ n. some-number 100000 (λ m. (l : ℕ) × There n m l)
+    (λ m. some-number 2 (There n m) (there n m) (λ l (is, at). let most : l ≤ 1 = is.l in omega arith))
+    (λ m (l, (is, at)). let most : m ≤ 99999 = is.m in omega arith))
+    (λ n (m, (l, (is, at))). let most : n ≤ 99999 = is.n in omega arith))
+  where
+    There : ℕ → ℕ → ℕ → Type 0
+    There n m l = IsDot (dot_of n m l) × Behind (ended (dot_line (dot_of n m l))) bytes
+
+    there : (n m l : ℕ) → Decided (There n m l)
+    there n m l = line-decided (IsDot (dot_of n m l)) (dot_line (dot_of n m l)) bytes (in-range (dot_of n m l))
 
 before-decided : (a b : Dot) → Decided (dot_cmp a b ≡ Less)
 before-decided a b = by (dot_cmp a b)
@@ -144,9 +106,6 @@ order-decided dots = same (IsStrictlySortedBy dot_cmp dots) (IsAscending dots) (
 -- the lines of dots in order stand at the front, or there is disorder
 abbrev Dots : List ℕ → Type 0
 Dots text = ((dots : List Dot) × ((rest : List ℕ) × AreDotsAt text dots rest)) ⊎ ((dots : List Dot) × IsDisorderAt text dots)
-
-shorter : (line bytes rest : List ℕ) → bytes ≡ ended line ++ rest → length rest < length bytes
-shorter line bytes rest e = omega (arith, ap length e, length-append (ended line) rest, length-append line (10 ∷ []))
 
 no_more : (text : List ℕ) (dots : List Dot) (rest : List ℕ) → AllByRecursion IsDot dots → IsAscending dots → text ≡ text_of (map dot_line dots) ++ rest → (DotAt rest → ⊥) → Dots text
 no_more text dots rest are up spelled never = inl (dots, (rest, record { are = are; ascending = up; spelled = spelled; no_more = λ dot behind at. never (dot, (behind, at)) }))

@@ -14,8 +14,7 @@ use Rattle.bx_queue.proofs.Orders.{find-some}
 use Rattle.bx_watch.specs.Watching.{IsFirst}
 use Rattle.bx_watch.proofs.Trails.{fresh}
 use Rattle.bx_search.specs.States.{Assigned, State, clauses_of, literals_of, watch_of, current_level, is_assigned, first_free}
-use Rattle.bx_search.specs.Learning.{treated_from}
-use Rattle.bx_search.specs.Searching.{Goes, After, IsSearch, IsConflict, learned, backjump_level}
+use Rattle.bx_search.specs.Searching.{Goes, After, IsSearch, IsConflict, learned, jump_level, levels_from}
 use Rattle.bx_search.specs.Searching.Goes.{Propagates, Decides, Learns}
 use Rattle.bx_search.specs.declared.outcome.Outcome.TheVariants.{Unsat}
 use Rattle.bx_search.proofs.Kept.{Falls, or-false}
@@ -90,7 +89,7 @@ backed-goes formula budget s t (Learns id step conflict within some next) rises 
     subst (IsBackedState formula) (sym next)
     (subst (λ cs. AreBacked cs (reverse (learned formula s id step).trail)) (with-step formula.clauses s.steps step)
     (backed-more (clauses_of formula s) (step.literals ∷ []) (reverse (learned formula s id step).trail)
-    (backed-up_to (clauses_of formula s) (backjump_level (length s.steps + 1) (treated_from (clauses_of formula s) s.trail id).kept) (current_level s.trail) s.trail (falls-reversed s.trail rises) backed)))
+    (backed-up_to (clauses_of formula s) (jump_level (length s.steps + 1) (levels_from (clauses_of formula s) s.trail id)) (current_level s.trail) s.trail (falls-reversed s.trail rises) backed)))
 
 pub backed-after : (formula : Formula) (budget events : ℕ) (s : State) → After formula budget events s → IsBackedState formula s
 backed-after formula budget zero s is = subst (IsBackedState formula) (sym is) tt

@@ -12,9 +12,9 @@ use Rattle.bx_watch.specs.Watching.{IsLeastActive}
 use Rattle.bx_watch.specs.declared.active.Active.TheVariants.{False}
 use Rattle.bx_search.specs.States.{Assigned, State, clauses_of, watch_of, current_level}
 use Rattle.bx_search.specs.Learning.{variables, reason_variables, is_marked, is_replaced, keeping, replacing, treated, treated_from, IsLearned}
-use Rattle.bx_search.specs.Searching.{Goes, After, IsConflict, cost, up_to, moved_in_turn, learned}
+use Rattle.bx_search.specs.Searching.{Goes, After, IsConflict, cost, up_to, jump_level, moved_in_turn, learned}
 use Rattle.bx_search.specs.Searching.Goes.{Propagates, Decides, Learns}
-use Rattle.bx_search.specs.Solving.{IsReached, state_of, step_of, IsSolver, Becomes, Analyzes, jump_level}
+use Rattle.bx_search.specs.Solving.{IsReached, state_of, step_of, IsSolver, Becomes, Analyzes}
 use Rattle.bx_search.specs.declared.solver.Solver.{Solver}
 use Rattle.bx_search.specs.declared.analyze.Analysis.{Analysis}
 use Rattle.bx_search.proofs.Kept.{by_treatment}

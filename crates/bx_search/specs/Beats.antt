@@ -25,7 +25,10 @@ pub leads-on : (p q r : Beats) → LeadsTo p q → LeadsTo q r → LeadsTo p r
 leads-on p q r (kept, first) (more, last) = (
   le_trans kept more,
   elim last [
-    | inl same ↦ elim first [ inl before ↦ inl (same ∙ before) | inr over ↦ inr (le_trans over more) ]
+    | inl same ↦ elim first [
+      | inl before ↦ inl (same ∙ before)
+      | inr over ↦ inr (le_trans over more)
+    ]
     | inr over ↦ inr over
   ],
 )

@@ -27,7 +27,8 @@ any_marked_of level marked trail = list_any (λ a. (a.level == level) && is_mark
 -- whether a marked literal is replaced: always where it is of level 0, and where it is of the current level
 -- while a further marked literal of this level stands before it
 abbrev pub is_replaced : ℕ → List ℕ → List Assigned → Assigned → Bool
-is_replaced current marked before a = (a.level == 0) || ((a.level == current) && any_marked_of current marked before)
+is_replaced current marked before a =
+    (a.level == 0) || ((a.level == current) && any_marked_of current marked before)
 
 -- the literals that are kept, as they stand on the trail, and the reasons of those that are replaced, in
 -- the order of the trail
@@ -54,13 +55,16 @@ treated clauses current marked (a ∷ before) =
 
 -- the walk from the false clause of this number
 abbrev pub treated_from : List (List Literal) → List Assigned → ℕ → Treated
-treated_from clauses trail id = treated clauses (current_level trail) (variables clauses id) (reverse trail)
+treated_from clauses trail id =
+    treated clauses (current_level trail) (variables clauses id) (reverse trail)
 
 -- The step that is learned from the false clause of this number: the literals that are kept, negated and
 -- ascending by variable; its hints are the reasons in the order of the trail, and then the false clause.
-pub record IsLearned (clauses : List (List Literal)) (trail : List Assigned) (id : ℕ) (step : Step) : Type 0 where
+pub record IsLearned (clauses : List (List Literal)) (trail : List Assigned) (id : ℕ)
+    (step : Step) : Type 0 where
   pub ascending : AscendAbove 0 step.literals
-  pub kept : (l : Literal) → Contains step.literals l ↔ Contains (map (λ a. negated a.literal) (treated_from clauses trail id).kept) l
+  pub kept : (l : Literal) → Contains step.literals l
+      ↔ Contains (map (λ a. negated a.literal) (treated_from clauses trail id).kept) l
   pub hints : step.hints ≡ (treated_from clauses trail id).reasons ++ id ∷ []
 
 -- those of a level

@@ -37,10 +37,14 @@ abbrev pub moved_in_turn : List Literal → List ℕ → List ℕ
 moved_in_turn [] queue = queue
 moved_in_turn (l ∷ literals) queue = moved_in_turn literals (moved_to_front l.var queue)
 
--- The level to go back to when so many clauses were learned: 0 at each 64th of them, and otherwise the
--- second-highest in the learned clause.
-abbrev pub backjump_level : ℕ → List Assigned → ℕ
-backjump_level count kept = if (count % 64) == 0 then 0 else second_highest (map (λ a. a.level) kept)
+-- The level to go back to when so many clauses were learned, the last with literals of these levels: 0 at each
+-- 64th of them, and otherwise the second-highest.
+abbrev pub jump_level : ℕ → List ℕ → ℕ
+jump_level count levels = if (count % 64) == 0 then 0 else second_highest levels
+
+-- the levels of the literals that are kept from the false clause of this number
+abbrev pub levels_from : List (List Literal) → List Assigned → ℕ → List ℕ
+levels_from clauses trail id = map (λ a. a.level) (treated_from clauses trail id).kept
 
 -- what a step costs: its literals and its hints
 abbrev pub cost : Step → ℕ
@@ -49,7 +53,8 @@ cost step = length step.literals + length step.hints
 -- a step is added, from the false clause of this number
 abbrev pub learned : Formula → State → ℕ → Step → State
 learned formula s id step = record {
-  trail = up_to (backjump_level (length s.steps + 1) (treated_from (clauses_of formula s) s.trail id).kept) s.trail;
+  trail = up_to
+      (jump_level (length s.steps + 1) (levels_from (clauses_of formula s) s.trail id)) s.trail;
   queue = moved_in_turn step.literals s.queue;
   phases = s.phases;
   steps = s.steps ++ step ∷ [];
@@ -67,23 +72,30 @@ IsQuiet formula s = NoneActive (literals_of s.trail) (clauses_of formula s)
 
 -- An event of the search: a unit clause, a decision, or a clause that is learned within the budget.
 pub data Goes (formula : Formula) (budget : ℕ) (s t : State) : Type 0 where
-  Propagates : (id : ℕ) (l : Literal) → IsLeastActive (watch_of formula s) (Unit id l) → t ≡ propagated s id l → Goes formula budget s t
-  Decides : (var : ℕ) → IsQuiet formula s → first_free s ≡ Some var → t ≡ decided s var → Goes formula budget s t
-  Learns : (id : ℕ) (step : Step) → IsConflict formula s id step → s.spent + cost step ≤ budget → step.literals ≢ [] → t ≡ learned formula s id step → Goes formula budget s t
+  Propagates : (id : ℕ) (l : Literal) → IsLeastActive (watch_of formula s) (Unit id l)
+      → t ≡ propagated s id l → Goes formula budget s t
+  Decides : (var : ℕ) → IsQuiet formula s → first_free s ≡ Some var → t ≡ decided s var
+      → Goes formula budget s t
+  Learns : (id : ℕ) (step : Step) → IsConflict formula s id step → s.spent + cost step ≤ budget
+      → step.literals ≢ [] → t ≡ learned formula s id step → Goes formula budget s t
 
 -- The end of the search in a state: all variables have values, or the empty clause is learned within the
 -- budget, or a step would pass the budget.
 abbrev pub Ends : Formula → ℕ → State → Outcome → Type 0
-Ends formula budget s (Sat bits) = IsQuiet formula s × (first_free s ≡ None) × (bits ≡ values formula.vars s.trail)
-Ends formula budget s (Unsat log) = (id : ℕ) × (step : Step) × IsConflict formula s id step × (s.spent + cost step ≤ budget) × (step.literals ≡ [])
+Ends formula budget s (Sat bits) = IsQuiet formula s × (first_free s ≡ None)
+    × (bits ≡ values formula.vars s.trail)
+Ends formula budget s (Unsat log) = (id : ℕ) × (step : Step) × IsConflict formula s id step
+    × (s.spent + cost step ≤ budget) × (step.literals ≡ [])
     × (log ≡ record { first = length formula.clauses + 1; steps = s.steps ++ step ∷ [] })
-Ends formula budget s (Undecided spent) = (id : ℕ) × (step : Step) × IsConflict formula s id step × (budget < s.spent + cost step) × (spent ≡ s.spent)
+Ends formula budget s (Undecided spent) = (id : ℕ) × (step : Step) × IsConflict formula s id step
+    × (budget < s.spent + cost step) × (spent ≡ s.spent)
 Ends formula budget s Stopped = ⊥
 
 -- the state after so many events
 abbrev pub After : Formula → ℕ → ℕ → State → Type 0
 After formula budget zero s = s ≡ start formula.vars
-After formula budget (suc events) s = (before : State) × After formula budget events before × Goes formula budget before s
+After formula budget (suc events) s = (before : State) × After formula budget events before
+    × Goes formula budget before s
 
 -- the search ends so, after events that learn so many clauses that aren't empty
 pub record IsSearch (formula : Formula) (budget : ℕ) (outcome : Outcome) (asked : ℕ) : Type 0 where

@@ -1,5 +1,5 @@
 -- What the solver's own contracts say: the states of the search that its parts stand for.
-use Rattle.std.specs.Prelude.{◌≡◌, ◌≢◌, ℕ, ◌+◌, ◌%◌, ◌<◌, ◌≤◌, ◌==◌, if◌then◌else◌, Bool, not, List, [], ◌∷◌, ◌++◌, Option, Some, None, length, count_by, map}
+use Rattle.std.specs.Prelude.{◌≡◌, ◌≢◌, ℕ, ◌+◌, ◌<◌, ◌≤◌, Bool, not, List, [], ◌∷◌, ◌++◌, Option, Some, None, length, count_by}
 use Rattle.bx_cnf.specs.Formulas.{Formula, IsFormula, AllTrue}
 use Rattle.bx_proof.specs.Steps.{Step, StepList}
 use Rattle.bx_proof.specs.Accepted.{IsAccepted}
@@ -7,8 +7,8 @@ use Rattle.bx_queue.specs.Queue.{IsQueue, IsVariable, is_taken}
 use Rattle.bx_watch.specs.Watching.{IsLeastActive}
 use Rattle.bx_watch.specs.declared.active.Active.TheVariants.{False}
 use Rattle.bx_search.specs.States.{Assigned, State, clauses_of, watch_of, is_assigned, first_free, values}
-use Rattle.bx_search.specs.Learning.{IsLearned, treated_from, second_highest}
-use Rattle.bx_search.specs.Searching.{After, Goes, Ends, IsQuiet, IsConflict, IsSearch, learned, cost}
+use Rattle.bx_search.specs.Learning.{IsLearned}
+use Rattle.bx_search.specs.Searching.{After, Goes, Ends, IsQuiet, IsConflict, IsSearch, learned, levels_from, cost}
 use Rattle.bx_search.specs.Marks.{unmarked as no_marks}
 use Rattle.bx_search.specs.declared.outcome.Outcome.{Outcome}
 use Rattle.bx_search.specs.declared.outcome.Outcome.TheVariants.{Sat, Unsat, Undecided, Stopped}
@@ -48,7 +48,8 @@ state_of s = record {
 -- the variables that are taken are those that are assigned
 pub record AreTaken (vars : ℕ) (taken : List Bool) (trail : List Assigned) : Type 0 where
   pub each_has : length taken ≡ vars
-  pub same : (v : ℕ) → IsVariable vars v → is_taken (record { order = []; taken = taken }) v ≡ is_assigned trail v
+  pub same : (v : ℕ) → IsVariable vars v
+      → is_taken (record { order = []; taken = taken }) v ≡ is_assigned trail v
   pub count : length trail + count_by not taken ≡ vars
 
 -- the parts of a solver agree
@@ -59,7 +60,8 @@ pub record IsSolver (s : Solver) : Type 0 where
   pub ordered : IsQueue s.queue
   pub takes : AreTaken s.clauses.now.vars s.queue.taken s.trail.entries
   pub phased : length s.phases.items ≡ s.clauses.now.vars
-  pub numbered : length s.clauses.now.clauses < 4294967295 → s.steps.first ≡ length s.clauses.now.clauses + 1
+  pub numbered : length s.clauses.now.clauses < 4294967295
+      → s.steps.first ≡ length s.clauses.now.clauses + 1
   pub unmarked : s.analysis.marks ≡ no_marks s.clauses.now.vars
 
 -- a solver, which is one still, has come to a state
@@ -71,10 +73,14 @@ pub record Becomes (old new : Solver) (s : State) : Type 0 where
 -- what a solver does next: an event that assigns a literal, or nothing where a clause is false or all
 -- variables have values
 abbrev pub GoesTo : Solver → Solver → Next → Type 0
-GoesTo old new Grows = (s : State) × Becomes old new s × (s.steps ≡ (state_of old).steps) × (s.spent ≡ (state_of old).spent)
-    × (length s.trail ≡ length (state_of old).trail + 1) × ((budget : ℕ) → Goes old.clauses.now budget (state_of old) s)
-GoesTo old new (Conflict id) = Becomes old new (state_of old) × IsLeastActive (watch_of old.clauses.now (state_of old)) (False id)
-GoesTo old new Complete = Becomes old new (state_of old) × IsQuiet old.clauses.now (state_of old) × (first_free (state_of old) ≡ None)
+GoesTo old new Grows = (s : State) × Becomes old new s × (s.steps ≡ (state_of old).steps)
+    × (s.spent ≡ (state_of old).spent)
+    × (length s.trail ≡ length (state_of old).trail + 1)
+    × ((budget : ℕ) → Goes old.clauses.now budget (state_of old) s)
+GoesTo old new (Conflict id) = Becomes old new (state_of old)
+    × IsLeastActive (watch_of old.clauses.now (state_of old)) (False id)
+GoesTo old new Complete = Becomes old new (state_of old) × IsQuiet old.clauses.now (state_of old)
+    × (first_free (state_of old) ≡ None)
 
 -- what conflict analysis learned last
 abbrev pub step_of : Solver → Step
@@ -83,20 +89,26 @@ step_of s = record { literals = s.analysis.literals.items; hints = s.analysis.hi
 -- a step was learned from the clause of this number, and nothing else has changed
 pub record Analyzes (old new : Solver) (id : ℕ) : Type 0 where
   pub becomes : Becomes old new (state_of old)
-  pub learned : IsLearned (clauses_of old.clauses.now (state_of old)) old.trail.entries id (step_of new)
-  pub levels : new.analysis.levels.items ≡ map (λ a. a.level) (treated_from (clauses_of old.clauses.now (state_of old)) old.trail.entries id).kept
-
--- the level to go back to when so many clauses were learned, the last with literals of these levels
-abbrev pub jump_level : ℕ → List ℕ → ℕ
-jump_level count levels = if (count % 64) == 0 then 0 else second_highest levels
+  pub learned : IsLearned (clauses_of old.clauses.now (state_of old)) old.trail.entries id
+      (step_of new)
+  pub levels : new.analysis.levels.items
+      ≡ levels_from (clauses_of old.clauses.now (state_of old)) old.trail.entries id
 
 -- What becomes of the false clause of this number: the step that is learned from it would pass the budget,
 -- or it is the empty one and the last of the log, or the search has learned it.
 abbrev pub LearnsTo : ℕ → ℕ → Solver → Solver → Learned → Type 0
-LearnsTo budget id old new Beyond = Becomes old new (state_of old) × ((step : Step) × IsConflict old.clauses.now (state_of old) id step × (budget < old.spent + cost step))
-LearnsTo budget id old new Empty = (step : Step) × IsConflict old.clauses.now (state_of old) id step × (old.spent + cost step ≤ budget) × (step.literals ≡ [])
-    × (new.steps ≡ record { first = length old.clauses.now.clauses + 1; steps = old.steps.steps ++ step ∷ [] })
-LearnsTo budget id old new Clause = (step : Step) × IsConflict old.clauses.now (state_of old) id step × (old.spent + cost step ≤ budget) × (step.literals ≢ [])
+LearnsTo budget id old new Beyond = Becomes old new (state_of old)
+    × ((step : Step) × IsConflict old.clauses.now (state_of old) id step
+    × (budget < old.spent + cost step))
+LearnsTo budget id old new Empty = (step : Step) × IsConflict old.clauses.now (state_of old) id step
+    × (old.spent + cost step ≤ budget) × (step.literals ≡ [])
+    × (new.steps ≡ record {
+      first = length old.clauses.now.clauses + 1;
+      steps = old.steps.steps ++ step ∷ [];
+    })
+LearnsTo budget id old new Clause = (step : Step)
+    × IsConflict old.clauses.now (state_of old) id step × (old.spent + cost step ≤ budget)
+    × (step.literals ≢ [])
     × Becomes old new (learned old.clauses.now (state_of old) id step)
 
 -- a solver has gone on, and has learned nothing more
@@ -105,7 +117,8 @@ pub record Moves (old new : Solver) : Type 0 where
   pub formula : new.clauses.now ≡ old.clauses.now
   pub steps : new.steps.steps ≡ old.steps.steps
   pub spent : new.spent ≡ old.spent
-  pub reached : (budget : ℕ) → IsReached old.clauses.now budget (state_of old) → IsReached old.clauses.now budget (state_of new)
+  pub reached : (budget : ℕ) → IsReached old.clauses.now budget (state_of old)
+      → IsReached old.clauses.now budget (state_of new)
 
 -- the clause of this number is false, or all variables have values
 abbrev pub Finds : Solver → Option ℕ → Type 0
@@ -114,13 +127,17 @@ Finds s None = IsQuiet s.clauses.now (state_of s) × (first_free (state_of s) �
 
 -- the search ends so, in a state with as many steps as the solver has
 abbrev pub EndsSo : ℕ → Solver → Outcome → Type 0
-EndsSo budget old end = (s : State) × IsReached old.clauses.now budget s × Ends old.clauses.now budget s end × (length s.steps ≡ length old.steps.steps)
+EndsSo budget old end = (s : State) × IsReached old.clauses.now budget s
+    × Ends old.clauses.now budget s end × (length s.steps ≡ length old.steps.steps)
 
 -- a conflict later a step was learned, or the search has ended
 abbrev pub TurnsTo : ℕ → Solver → Solver → Turn → Type 0
-TurnsTo budget old new More = IsSolver new × (new.clauses.now ≡ old.clauses.now) × IsReached old.clauses.now budget (state_of new)
-    × (length new.steps.steps ≡ length old.steps.steps + 1) × (old.spent < new.spent) × (new.spent ≤ budget)
-TurnsTo budget old new Whole = (new.trail.vars ≡ old.clauses.now.vars) × EndsSo budget old (Sat (values old.clauses.now.vars new.trail.entries))
+TurnsTo budget old new More = IsSolver new × (new.clauses.now ≡ old.clauses.now)
+    × IsReached old.clauses.now budget (state_of new)
+    × (length new.steps.steps ≡ length old.steps.steps + 1) × (old.spent < new.spent)
+    × (new.spent ≤ budget)
+TurnsTo budget old new Whole = (new.trail.vars ≡ old.clauses.now.vars)
+    × EndsSo budget old (Sat (values old.clauses.now.vars new.trail.entries))
 TurnsTo budget old new Over = EndsSo budget old (Undecided new.spent)
 TurnsTo budget old new None_left = EndsSo budget old (Unsat new.steps)
 
@@ -133,10 +150,12 @@ outcome_of s Unwanted = Stopped
 
 -- An answer is the search's end, or its pulse stopped it. The pulse was asked once for each step, and at most
 -- as often as the search learns.
-pub record IsAnswer (formula : Formula) (budget : ℕ) (end : Outcome) (asked_first asked stops_first stops : ℕ) : Type 0 where
+pub record IsAnswer (formula : Formula) (budget : ℕ) (end : Outcome)
+    (asked_first asked stops_first stops : ℕ) : Type 0 where
   pub ended : end ≢ Stopped → (n : ℕ) × IsSearch formula budget end n × (asked ≡ asked_first + n)
   pub not_stopped : end ≢ Stopped → stops ≡ stops_first
   pub stopped : end ≡ Stopped → stops ≡ stops_first + 1
   pub some : end ≡ Stopped → asked_first + 1 ≤ asked
   pub accepted : (log : StepList) → end ≡ Unsat log → IsAccepted formula log
-  pub solved : (bits : List Bool) → end ≡ Sat bits → (length bits ≡ formula.vars) × AllTrue bits formula.clauses
+  pub solved : (bits : List Bool) → end ≡ Sat bits
+      → (length bits ≡ formula.vars) × AllTrue bits formula.clauses

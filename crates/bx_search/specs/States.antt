@@ -26,7 +26,13 @@ pub record State : Type 0 where
   pub spent : ℕ
 
 abbrev pub start : ℕ → State
-start vars = record { trail = []; queue = range_with_len 1 vars; phases = replicate vars false; steps = []; spent = 0 }
+start vars = record {
+  trail = [];
+  queue = range_with_len 1 vars;
+  phases = replicate vars false;
+  steps = [];
+  spent = 0;
+}
 
 -- the clauses of a formula, and behind them what was learned
 abbrev pub clauses_of : Formula → State → List (List Literal)
@@ -38,7 +44,11 @@ literals_of trail = map (λ a. a.literal) trail
 
 -- the clauses and the trail in which the least-numbered active clause is sought
 abbrev pub watch_of : Formula → State → Watch
-watch_of formula s = record { vars = formula.vars; clauses = clauses_of formula s; trail = literals_of s.trail }
+watch_of formula s = record {
+  vars = formula.vars;
+  clauses = clauses_of formula s;
+  trail = literals_of s.trail;
+}
 
 -- the level of the last literal, and this one where there is none
 abbrev pub level_after : ℕ → List Assigned → ℕ

@@ -22,4 +22,5 @@ pub record IsAssignment (t : Assignment) : Type 0 where
 
 -- the table has the level of each variable that is assigned
 abbrev pub AreLevels : List ℕ → List Assigned → Type 0
-AreLevels levels entries = (a : Assigned) → Contains entries a → slice_index levels (a.literal.var - 1) ≡ a.level
+AreLevels levels entries = (a : Assigned) → Contains entries a
+    → slice_index levels (a.literal.var - 1) ≡ a.level

@@ -9,7 +9,8 @@ ghost use Rattle.bx_proof.specs.Accepted.{with_steps};
 ghost use Rattle.bx_watch.specs.Watching.{IsOver, AreApart, IsLeastActive};
 ghost use Rattle.bx_watch.specs.declared.active.Active.TheVariants.{False};
 ghost use Rattle.bx_search.specs.States.{literals_of, current_level, is_assigned};
-ghost use Rattle.bx_search.specs.Learning.{treated_from, IsLearned, reason_variables};
+ghost use Rattle.bx_search.specs.Learning.{IsLearned, reason_variables};
+ghost use Rattle.bx_search.specs.Searching.{levels_from};
 ghost use Rattle.bx_search.specs.Solving.{Reaches};
 ghost use Rattle.bx_search.specs.Marks.{unmarked, has_mark, with_marks, replaces, replaced, kept, passed, IsTreatable};
 
@@ -64,17 +65,19 @@ impl Analysis {
     ) -> Result<(), NoMemory>
         requires unmarked { self.old.marks ≡ unmarked clauses.now.vars }
         requires vars { trail.now.vars ≡ clauses.now.vars }
-        requires numbered { 0 < length steps.now.steps → steps.now.first ≡ length clauses.now.clauses + 1 }
+        requires numbered { 0 < length steps.now.steps
+            → steps.now.first ≡ length clauses.now.clauses + 1 }
         requires reached { Reaches clauses.now trail.now.entries steps.now.steps }
         requires fails { IsLeastActive (record {
           vars = clauses.now.vars;
           clauses = with_steps clauses.now.clauses steps.now.steps;
           trail = literals_of trail.now.entries;
         }) (False id) }
-        ensures learned { OnOk result (IsLearned (with_steps clauses.now.clauses steps.now.steps) trail.now.entries id
+        ensures learned { OnOk result (IsLearned
+            (with_steps clauses.now.clauses steps.now.steps) trail.now.entries id
             (record { literals = self.new.literals.items; hints = self.new.hints.items })) }
         ensures levels { OnOk result (self.new.levels.items
-            ≡ map (λ a. a.level) (treated_from (with_steps clauses.now.clauses steps.now.steps) trail.now.entries id).kept) }
+            ≡ levels_from (with_steps clauses.now.clauses steps.now.steps) trail.now.entries id) }
         ensures unmarked { OnOk result (self.new.marks ≡ self.old.marks) }
     {
         self.begin(clause_of(clauses, steps, id), trail, id)?;
@@ -91,7 +94,8 @@ impl Analysis {
     fn begin(&mut self, clause: &[Lit], trail: &Trail, id: u32) -> Result<(), NoMemory>
         requires unmarked { self.old.marks ≡ unmarked trail.now.vars }
         requires assigned { All (λ l. is_assigned trail.now.entries l.var ≡ true) clause.now }
-        ensures marks { OnOk result (self.new.marks ≡ with_marks trail.now.entries (map (λ l. l.var) clause.now) self.old.marks) }
+        ensures marks { OnOk result (self.new.marks
+            ≡ with_marks trail.now.entries (map (λ l. l.var) clause.now) self.old.marks) }
         ensures literals { OnOk result (self.new.literals.items ≡ []) }
         ensures levels { OnOk result (self.new.levels.items ≡ []) }
         ensures hints { OnOk result (self.new.hints.items ≡ id ∷ []) }
@@ -112,18 +116,20 @@ impl Analysis {
         trail: &Trail,
         entry: Entry,
     ) -> Result<(), NoMemory>
-        requires { IsTreatable (with_steps clauses.now.clauses steps.now.steps) trail.now self.old.marks entry }
+        requires { IsTreatable (with_steps clauses.now.clauses steps.now.steps) trail.now
+            self.old.marks entry }
         ensures { OnOk result (record {
           marks = self.new.marks;
           literals = self.new.literals.items;
           levels = self.new.levels.items;
           hints = self.new.hints.items;
-        } ≡ passed (with_steps clauses.now.clauses steps.now.steps) trail.now.entries entry (record {
-          marks = self.old.marks;
-          literals = self.old.literals.items;
-          levels = self.old.levels.items;
-          hints = self.old.hints.items;
-        })) }
+        } ≡ passed (with_steps clauses.now.clauses steps.now.steps) trail.now.entries entry
+            (record {
+              marks = self.old.marks;
+              literals = self.old.literals.items;
+              levels = self.old.levels.items;
+              hints = self.old.hints.items;
+            })) }
     {
         if !self.marks.has(entry.lit().var()) {
             return Ok(());
@@ -150,19 +156,21 @@ impl Analysis {
         trail: &Trail,
         entry: Entry,
     ) -> Result<(), NoMemory>
-        requires treatable { IsTreatable (with_steps clauses.now.clauses steps.now.steps) trail.now self.old.marks entry }
+        requires treatable { IsTreatable (with_steps clauses.now.clauses steps.now.steps) trail.now
+            self.old.marks entry }
         requires marked { has_mark self.old.marks entry.literal.var ≡ true }
         ensures { OnOk result (record {
           marks = self.new.marks;
           literals = self.new.literals.items;
           levels = self.new.levels.items;
           hints = self.new.hints.items;
-        } ≡ replaced (with_steps clauses.now.clauses steps.now.steps) trail.now.entries entry (record {
-          marks = self.old.marks;
-          literals = self.old.literals.items;
-          levels = self.old.levels.items;
-          hints = self.old.hints.items;
-        })) }
+        } ≡ replaced (with_steps clauses.now.clauses steps.now.steps) trail.now.entries entry
+            (record {
+              marks = self.old.marks;
+              literals = self.old.literals.items;
+              levels = self.old.levels.items;
+              hints = self.old.hints.items;
+            })) }
     {
         self.add_reason(clauses, steps, trail, entry)?;
         self.marks
@@ -178,10 +186,13 @@ impl Analysis {
         trail: &Trail,
         entry: Entry,
     ) -> Result<(), NoMemory>
-        requires { IsTreatable (with_steps clauses.now.clauses steps.now.steps) trail.now self.old.marks entry }
+        requires { IsTreatable (with_steps clauses.now.clauses steps.now.steps) trail.now
+            self.old.marks entry }
         ensures marks { OnOk result (self.new.marks ≡ with_marks trail.now.entries
-            (reason_variables (with_steps clauses.now.clauses steps.now.steps) entry.reason) self.old.marks) }
-        ensures hints { OnOk result (self.new.hints.items ≡ self.old.hints.items ++ option_to_list entry.reason) }
+            (reason_variables (with_steps clauses.now.clauses steps.now.steps) entry.reason)
+            self.old.marks) }
+        ensures hints { OnOk result (self.new.hints.items
+            ≡ self.old.hints.items ++ option_to_list entry.reason) }
         ensures literals { OnOk result (self.new.literals.items ≡ self.old.literals.items) }
         ensures levels { OnOk result (self.new.levels.items ≡ self.old.levels.items) }
     {
@@ -196,7 +207,8 @@ impl Analysis {
     fn keep(&mut self, trail: &Trail, entry: Entry) -> Result<(), NoMemory>
         requires over { IsOver (length self.old.marks.marked) entry.literal }
         requires some { 0 < self.old.marks.left }
-        requires some_here { entry.level ≡ current_level trail.now.entries → 0 < self.old.marks.here }
+        requires some_here { entry.level ≡ current_level trail.now.entries
+            → 0 < self.old.marks.here }
         ensures { OnOk result (record {
           marks = self.new.marks;
           literals = self.new.literals.items;
@@ -221,7 +233,8 @@ impl Analysis {
         requires above { All (λ l. 0 < l.var) self.old.literals.items }
         requires apart { AreApart self.old.literals.items }
         ensures ascending { AscendAbove 0 self.new.literals.items }
-        ensures same { (l : Literal) → Contains self.new.literals.items l ↔ Contains self.old.literals.items l }
+        ensures same { (l : Literal)
+            → Contains self.new.literals.items l ↔ Contains self.old.literals.items l }
         ensures hints { self.new.hints.items ≡ reverse self.old.hints.items }
         ensures levels { self.new.levels.items ≡ self.old.levels.items }
         ensures marks { self.new.marks ≡ self.old.marks }
@@ -235,7 +248,8 @@ impl Analysis {
 fn clause_of<'a>(clauses: &'a Clauses, steps: &'a Steps, id: u32) -> &'a [Lit]
     requires above { 0 < id }
     requires within { id ≤ length (with_steps clauses.now.clauses steps.now.steps) }
-    ensures { slice_get (with_steps clauses.now.clauses steps.now.steps) (id - 1) ≡ Some result.now }
+    ensures { slice_get (with_steps clauses.now.clauses steps.now.steps) (id - 1)
+        ≡ Some result.now }
 {
     let own = clauses.len();
     if id <= own {

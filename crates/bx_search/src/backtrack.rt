@@ -18,7 +18,9 @@ impl Solver<'_> {
     /// `NoMemory`, and then this value is only to be dropped.
     pub(crate) fn backtrack(&mut self, level: u32) -> Result<(), NoMemory>
         requires { IsSolver self.old }
-        ensures { OnOk result (Becomes self.old self.new (record (state_of self.old) { trail = up_to level self.old.trail.entries })) }
+        ensures { OnOk result (Becomes self.old self.new (record (state_of self.old) {
+          trail = up_to level self.old.trail.entries;
+        })) }
     {
         while self.trail.level() > level {
             self.free_last()?;
@@ -31,8 +33,11 @@ impl Solver<'_> {
         requires agrees { IsSolver self.old }
         requires formed { IsAssignment self.old.trail }
         requires some { 0 < length self.old.trail.entries }
-        ensures { OnOk result ((last : Assigned) × (self.old.trail.entries ≡ self.new.trail.entries ++ last ∷ [])
-            × Becomes self.old self.new (record (state_of self.old) { trail = self.new.trail.entries })) }
+        ensures { OnOk result ((last : Assigned)
+            × (self.old.trail.entries ≡ self.new.trail.entries ++ last ∷ [])
+            × Becomes self.old self.new (record (state_of self.old) {
+              trail = self.new.trail.entries;
+            })) }
     {
         let lit = self.trail.pop();
         self.queue.freed(lit.var());

@@ -13,45 +13,57 @@ ghost use Rattle.bx_search.specs.declared.outcome.Outcome.TheVariants.{Sat, Unsa
 
 /// No literal of level 0 is kept in a learned clause.
 pub fn nothing_of_level_0_is_kept()
-    ensures { (clauses : List (List Literal)) (trail : List Assigned) (id : ℕ) → All (λ a. 0 < a.level) (treated_from clauses trail id).kept }
+    ensures { (clauses : List (List Literal)) (trail : List Assigned) (id : ℕ)
+        → All (λ a. 0 < a.level) (treated_from clauses trail id).kept }
 {}
 
 /// In a state that the search reaches, at most one literal of the current level is kept.
 pub fn one_of_the_current_level_is_kept()
-    ensures { (formula : Formula) (budget events : ℕ) (s : State) (id : ℕ) → After formula budget events s
-        → length (of_level (current_level s.trail) (treated_from (clauses_of formula s) s.trail id).kept) ≤ 1 }
+    ensures { (formula : Formula) (budget events : ℕ) (s : State) (id : ℕ)
+        → After formula budget events s
+        → length (of_level (current_level s.trail)
+        (treated_from (clauses_of formula s) s.trail id).kept) ≤ 1 }
 {}
 
 /// The search of a formula within a budget has one end, and learns one number of clauses on the way.
 pub fn the_search_has_one_end()
-    ensures { (formula : Formula) (budget m n : ℕ) (end other : Outcome) → IsSearch formula budget end m → IsSearch formula budget other n → (end ≡ other) × (m ≡ n) }
+    ensures { (formula : Formula) (budget m n : ℕ) (end other : Outcome)
+        → IsSearch formula budget end m → IsSearch formula budget other n
+        → (end ≡ other) × (m ≡ n) }
 {}
 
 /// Each clause that the search learns follows, by its hints, from those of the formula and those learned
 /// before it; so does the empty clause at the end.
 pub fn each_learned_clause_follows()
-    ensures learned { (formula : Formula) (budget events : ℕ) (s : State) → After formula budget events s → EachFollows formula.clauses s.steps }
-    ensures log { (formula : Formula) (budget count : ℕ) (log : StepList) → IsSearch formula budget (Unsat log) count → EachFollows formula.clauses log.steps }
+    ensures learned { (formula : Formula) (budget events : ℕ) (s : State)
+        → After formula budget events s → EachFollows formula.clauses s.steps }
+    ensures log { (formula : Formula) (budget count : ℕ) (log : StepList)
+        → IsSearch formula budget (Unsat log) count → EachFollows formula.clauses log.steps }
 {}
 
 /// The log of a search that ends with the empty clause is accepted, so nothing solves its formula.
 pub fn a_log_is_accepted()
-    ensures { (formula : Formula) (budget count : ℕ) (log : StepList) → IsFormula formula → IsSearch formula budget (Unsat log) count → IsAccepted formula log }
+    ensures { (formula : Formula) (budget count : ℕ) (log : StepList) → IsFormula formula
+        → IsSearch formula budget (Unsat log) count → IsAccepted formula log }
 {}
 
 /// The bits with which a search ends, one for each variable, make all clauses of its formula true.
 pub fn the_bits_of_a_search_solve()
-    ensures each_has { (formula : Formula) (budget count : ℕ) (bits : List Bool) → IsFormula formula → IsSearch formula budget (Sat bits) count → length bits ≡ formula.vars }
-    ensures all_true { (formula : Formula) (budget count : ℕ) (bits : List Bool) → IsFormula formula → IsSearch formula budget (Sat bits) count → AllTrue bits formula.clauses }
+    ensures each_has { (formula : Formula) (budget count : ℕ) (bits : List Bool) → IsFormula formula
+        → IsSearch formula budget (Sat bits) count → length bits ≡ formula.vars }
+    ensures all_true { (formula : Formula) (budget count : ℕ) (bits : List Bool) → IsFormula formula
+        → IsSearch formula budget (Sat bits) count → AllTrue bits formula.clauses }
 {}
 
 /// The search of each formula within each budget ends: events that learn nothing make the trail longer,
 /// which has one literal of each variable at most, and the others leave less of the budget.
 pub fn a_search_ends()
-    ensures { (formula : Formula) (budget : ℕ) → IsFormula formula → (end : Outcome) × (count : ℕ) × IsSearch formula budget end count }
+    ensures { (formula : Formula) (budget : ℕ) → IsFormula formula
+        → (end : Outcome) × (count : ℕ) × IsSearch formula budget end count }
 {}
 
 /// A search learns no more clauses that aren't empty than its budget is.
 pub fn a_search_learns_within_its_budget()
-    ensures { (formula : Formula) (budget count : ℕ) (end : Outcome) → IsSearch formula budget end count → count ≤ budget }
+    ensures { (formula : Formula) (budget count : ℕ) (end : Outcome)
+        → IsSearch formula budget end count → count ≤ budget }
 {}

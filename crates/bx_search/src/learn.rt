@@ -7,14 +7,22 @@ ghost use Rattle.bx_queue.specs.Queue.{IsVariable};
 ghost use Rattle.bx_watch.specs.Watching.{IsLeastActive};
 ghost use Rattle.bx_watch.specs.declared.active.Active.TheVariants.{False};
 ghost use Rattle.bx_search.specs.States.{clauses_of, watch_of};
-ghost use Rattle.bx_search.specs.Searching.{cost, moved_in_turn, up_to};
-ghost use Rattle.bx_search.specs.Solving.{IsReached, IsSolver, state_of, step_of, Becomes, Analyzes, LearnsTo, jump_level};
+ghost use Rattle.bx_search.specs.Searching.{cost, jump_level, moved_in_turn, up_to};
+ghost use Rattle.bx_search.specs.Solving.{IsReached, IsSolver, state_of, step_of, Becomes, Analyzes, LearnsTo};
 
 use crate::backtrack::second_highest;
 use crate::solver::Solver;
 use bx_cnf::Lit;
 use bx_logic::NoMemory;
 use bx_queue::MoveFront;
+
+/// After so many learned clauses each, the search starts again from level 0. The order of the queue and the
+/// phases stay, so it soon stands where it stood, but for the decisions that the newest clauses ask for; a
+/// short, fixed period then costs little. Luby's series (Luby, Sinclair and Zuckerman, 1993) and averages of
+/// how many levels a clause has (glucose: Audemard and Simon, 2012) decide more formulas. They were turned
+/// down: each byte of a log hangs on when the search restarts, and the definition of the search would have to
+/// keep a place in the series, or the averages and how they are rounded, in its state.
+const RESTART_PERIOD: u32 = 64;
 
 /// What became of a false clause.
 pub(crate) enum Learned {
@@ -35,7 +43,8 @@ impl Solver<'_> {
     pub(crate) fn learn(&mut self, id: u32, budget: u64) -> Result<Learned, NoMemory>
         requires agrees { IsSolver self.old }
         requires reached { IsReached self.old.clauses.now budget (state_of self.old) }
-        requires fails { IsLeastActive (watch_of self.old.clauses.now (state_of self.old)) (False id) }
+        requires fails { IsLeastActive (watch_of self.old.clauses.now (state_of self.old))
+            (False id) }
         requires room { length self.old.clauses.now.clauses + budget ≤ 4294967295 }
         ensures { IfOk result (LearnsTo budget id self.old self.new) }
     {
@@ -56,7 +65,8 @@ impl Solver<'_> {
         requires agrees { IsSolver self.old }
         requires reached { (budget : ℕ) × IsReached self.old.clauses.now budget (state_of self.old)
             × (length self.old.clauses.now.clauses + budget ≤ 4294967295) }
-        requires fails { IsLeastActive (watch_of self.old.clauses.now (state_of self.old)) (False id) }
+        requires fails { IsLeastActive (watch_of self.old.clauses.now (state_of self.old))
+            (False id) }
         ensures { OnOk result (Analyzes self.old self.new id) }
     {
         self.analysis
@@ -77,7 +87,8 @@ impl Solver<'_> {
     // Adds what was learned to the log and to the clauses.
     fn add_step(&mut self) -> Result<(), NoMemory>
         requires agrees { IsSolver self.old }
-        requires step { IsStep (self.old.steps.first + length self.old.steps.steps) (step_of self.old) }
+        requires step { IsStep (self.old.steps.first + length self.old.steps.steps)
+            (step_of self.old) }
         requires clause { IsClause self.old.clauses.now.vars self.old.analysis.literals.items }
         requires room { length (clauses_of self.old.clauses.now (state_of self.old)) < 4294967295 }
         requires fits { self.old.spent + cost (step_of self.old) ≤ 4294967295 }
@@ -99,7 +110,8 @@ impl Solver<'_> {
         requires agrees { IsSolver self.old }
         requires clause { IsClause self.old.clauses.now.vars self.old.analysis.literals.items }
         ensures { OnOk result (Becomes self.old self.new (record (state_of self.old) {
-          trail = up_to (jump_level (length self.old.steps.steps) self.old.analysis.levels.items) self.old.trail.entries;
+          trail = up_to (jump_level (length self.old.steps.steps) self.old.analysis.levels.items)
+              self.old.trail.entries;
           queue = moved_in_turn self.old.analysis.literals.items self.old.queue.order;
         })) }
     {
@@ -108,11 +120,12 @@ impl Solver<'_> {
         self.backtrack(level)
     }
 
-    // The level to go back to: 0 at each 64th step, and otherwise the second-highest in what was learned.
+    // The level to go back to: 0 where the search restarts, and otherwise the second-highest in what was
+    // learned.
     fn jump_level(&self) -> u32
         ensures { result ≡ jump_level (length self.now.steps.steps) self.now.analysis.levels.items }
     {
-        if self.steps.len() % 64 == 0 {
+        if self.steps.len() % RESTART_PERIOD == 0 {
             0
         } else {
             second_highest(&self.analysis.levels)

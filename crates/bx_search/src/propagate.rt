@@ -20,7 +20,8 @@ impl Solver<'_> {
     pub(crate) fn propagate(&mut self, id: u32, lit: Lit) -> Result<(), NoMemory>
         requires agrees { IsSolver self.old }
         requires over { IsOver self.old.clauses.now.vars lit }
-        requires leaves { IsLeastActive (watch_of self.old.clauses.now (state_of self.old)) (Unit id lit) }
+        requires leaves { IsLeastActive (watch_of self.old.clauses.now (state_of self.old))
+            (Unit id lit) }
         ensures { OnOk result (Becomes self.old self.new (propagated (state_of self.old) id lit)) }
     {
         self.trail.push_unit(lit, id)?;

@@ -36,15 +36,20 @@ pub fn solve<P: Pulse>(
 
     // Unless it was stopped it is the search's end, and the pulse was asked once for each step.
     ensures ended { IfOk result (λ end. end ≢ Outcome.Stopped
-        → (n : ℕ) × IsSearch clauses.now budget end n × (P.asked pulse.new ≡ P.asked pulse.old + n)) }
-    ensures not_stopped { IfOk result (λ end. end ≢ Outcome.Stopped → P.stops pulse.new ≡ P.stops pulse.old) }
+        → (n : ℕ) × IsSearch clauses.now budget end n
+        × (P.asked pulse.new ≡ P.asked pulse.old + n)) }
+    ensures not_stopped { IfOk result (λ end. end ≢ Outcome.Stopped
+        → P.stops pulse.new ≡ P.stops pulse.old) }
 
     // It is stopped only where the pulse said so, at last.
-    ensures stopped { IfOk result (λ end. end ≡ Outcome.Stopped → P.stops pulse.new ≡ P.stops pulse.old + 1) }
-    ensures asked { IfOk result (λ end. end ≡ Outcome.Stopped → P.asked pulse.old + 1 ≤ P.asked pulse.new) }
+    ensures stopped { IfOk result (λ end. end ≡ Outcome.Stopped
+        → P.stops pulse.new ≡ P.stops pulse.old + 1) }
+    ensures asked { IfOk result (λ end. end ≡ Outcome.Stopped
+        → P.asked pulse.old + 1 ≤ P.asked pulse.new) }
 
     // It never asks more often than the search learns.
-    ensures at_most { (end : End) (n : ℕ) → IsSearch clauses.now budget end n → P.asked pulse.new ≤ P.asked pulse.old + n }
+    ensures at_most { (end : End) (n : ℕ) → IsSearch clauses.now budget end n
+        → P.asked pulse.new ≤ P.asked pulse.old + n }
     ensures no_memory { OnErr result (P.stops pulse.new ≡ P.stops pulse.old) }
     ensures leads { P.leads pulse.old pulse.new }
 
@@ -56,7 +61,8 @@ pub fn solve<P: Pulse>(
         → (length bits ≡ clauses.now.vars) × AllTrue bits clauses.now.clauses) }
 
     // A log that it gives is accepted.
-    ensures accepted { IfOk result (λ end. (log : StepList) → end ≡ Outcome.Unsat log → IsAccepted clauses.now log) }
+    ensures accepted { IfOk result (λ end. (log : StepList) → end ≡ Outcome.Unsat log
+        → IsAccepted clauses.now log) }
 {
     let mut solver = Solver::new(alloc, clauses)?;
     solver.answer(alloc, budget, pulse)
@@ -100,7 +106,8 @@ impl Solver<'_> {
         requires room { length self.old.clauses.now.clauses + budget ≤ 4294967295 }
         ensures answers { IfOk result (λ end. IsAnswer self.old.clauses.now budget end
             (P.asked pulse.old) (P.asked pulse.new) (P.stops pulse.old) (P.stops pulse.new)) }
-        ensures at_most { (end : End) (n : ℕ) → IsSearch self.old.clauses.now budget end n → P.asked pulse.new ≤ P.asked pulse.old + n }
+        ensures at_most { (end : End) (n : ℕ) → IsSearch self.old.clauses.now budget end n
+            → P.asked pulse.new ≤ P.asked pulse.old + n }
         ensures no_memory { OnErr result (P.stops pulse.new ≡ P.stops pulse.old) }
         ensures leads { P.leads pulse.old pulse.new }
         ensures still_ready { IfOk result (λ end. end ≢ Outcome.Stopped → P.ready pulse.new) }
@@ -115,9 +122,11 @@ impl Solver<'_> {
         requires agrees { IsSolver self.old }
         requires starts { state_of self.old ≡ start self.old.clauses.now.vars }
         requires room { length self.old.clauses.now.clauses + budget ≤ 4294967295 }
-        ensures answers { IfOk result (λ halt. IsAnswer self.old.clauses.now budget (outcome_of self.new halt)
+        ensures answers { IfOk result (λ halt. IsAnswer self.old.clauses.now budget
+            (outcome_of self.new halt)
             (P.asked pulse.old) (P.asked pulse.new) (P.stops pulse.old) (P.stops pulse.new)) }
-        ensures at_most { (end : End) (n : ℕ) → IsSearch self.old.clauses.now budget end n → P.asked pulse.new ≤ P.asked pulse.old + n }
+        ensures at_most { (end : End) (n : ℕ) → IsSearch self.old.clauses.now budget end n
+            → P.asked pulse.new ≤ P.asked pulse.old + n }
         ensures no_memory { OnErr result (P.stops pulse.new ≡ P.stops pulse.old) }
         ensures leads { P.leads pulse.old pulse.new }
         ensures still_ready { IfOk result (λ halt. halt ≢ Halt.Unwanted → P.ready pulse.new) }

@@ -69,7 +69,8 @@ impl<'a> Solver<'a> {
         queue: MoveFront,
         trail: Trail,
     ) -> Result<Self, NoMemory>
-        requires watched { watched ≡ record { vars = clauses.now.vars; clauses = clauses.now.clauses; trail = [] } }
+        requires watched { watched
+            ≡ record { vars = clauses.now.vars; clauses = clauses.now.clauses; trail = [] } }
         requires ordered { IsQueue queue }
         requires order { queue.order ≡ range_with_len 1 clauses.now.vars }
         requires free { queue.taken ≡ replicate clauses.now.vars false }

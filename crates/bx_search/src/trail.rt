@@ -71,7 +71,8 @@ impl Model for Trail {
     ghost view = { λ t. record { vars = length t.levels.items; entries = t.entries.items } };
 
     ghost invariant = { λ t.
-        IsAssignment (record { vars = length t.levels.items; entries = t.entries.items }) × AreLevels t.levels.items t.entries.items };
+        IsAssignment (record { vars = length t.levels.items; entries = t.entries.items })
+        × AreLevels t.levels.items t.entries.items };
 }
 
 impl Trail {
@@ -118,7 +119,8 @@ impl Trail {
     pub(crate) fn level_of(&self, var: u32) -> u32
         requires above { 0 < var }
         requires within { var ≤ self.now.vars }
-        ensures { (a : Assigned) → Contains self.now.entries a → a.literal.var ≡ var → result ≡ a.level }
+        ensures { (a : Assigned) → Contains self.now.entries a → a.literal.var ≡ var
+            → result ≡ a.level }
     {
         self.levels[var as usize - 1]
     }
@@ -133,7 +135,11 @@ impl Trail {
         requires is_free { IsFree (literals_of self.old.entries) lit }
         ensures { OnOk result (self.new ≡ record self.old {
           entries = self.old.entries
-              ++ record { literal = lit; level = current_level self.old.entries; reason = Some reason } ∷ [];
+              ++ record {
+                literal = lit;
+                level = current_level self.old.entries;
+                reason = Some reason;
+              } ∷ [];
         }) }
     {
         let level = self.level();
@@ -155,7 +161,11 @@ impl Trail {
         requires room { length self.old.entries < self.old.vars }
         ensures { OnOk result (self.new ≡ record self.old {
           entries = self.old.entries
-              ++ record { literal = lit; level = current_level self.old.entries + 1; reason = None } ∷ [];
+              ++ record {
+                literal = lit;
+                level = current_level self.old.entries + 1;
+                reason = None;
+              } ∷ [];
         }) }
     {
         let level = self.level() + 1;
@@ -172,7 +182,8 @@ impl Trail {
         requires is_free { IsFree (literals_of self.old.entries) entry.literal }
         requires low { current_level self.old.entries ≤ entry.level }
         requires high { entry.level ≤ current_level self.old.entries + 1 }
-        ensures { OnOk result (self.new ≡ record self.old { entries = self.old.entries ++ entry ∷ [] }) }
+        ensures { OnOk result (self.new
+            ≡ record self.old { entries = self.old.entries ++ entry ∷ [] }) }
     {
         self.entries.push(entry)?;
         self.levels[entry.lit.var() as usize - 1] = entry.level;
@@ -182,7 +193,8 @@ impl Trail {
     /// Takes the last literal off.
     pub(crate) fn pop(&mut self) -> Lit
         requires { 0 < length self.old.entries }
-        ensures { (last : Assigned) × (last.literal ≡ result) × (self.old ≡ record self.new { entries = self.new.entries ++ last ∷ [] }) }
+        ensures { (last : Assigned) × (last.literal ≡ result)
+            × (self.old ≡ record self.new { entries = self.new.entries ++ last ∷ [] }) }
     {
         let last = self.entries.pop().unwrap();
         last.lit

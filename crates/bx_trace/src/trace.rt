@@ -1,4 +1,5 @@
-//! The question itself: the one layout that the forms leave is made, and judged.
+//! The question itself: the one layout that the forms leave is made, in time linear in tiles, and
+//! judged. The judgement is that of any layout, which looks at each edge on each tile.
 ghost use Rattle.std.specs.Prelude.{◌≡◌, ◌↔◌, ℕ, IfOk, IsTrue};
 ghost use Rattle.bx_grid.specs.Tiles.{IsTile};
 ghost use Rattle.bx_layout.specs.Grids.{form_at};
@@ -14,7 +15,8 @@ use bx_network::MappedNet;
 use std::alloc::Global;
 
 /// Whether some layout with these places, legal under the permit of all forms, has this form grid.
-/// Places of a wrong number, off the grid, or of two nodes at once have none.
+/// Places of a wrong number, off the grid, or of two nodes at once have none. Memory is linear in
+/// tiles and nodes, and time in tiles times edges.
 ///
 /// # Errors
 ///

@@ -1,9 +1,10 @@
 //! What a desk that tells its files shows of files that were written. Nothing here runs.
-ghost use Rattle.std.specs.Prelude.{◌≡◌, ◌≢◌, Some};
+ghost use Rattle.std.specs.Prelude.{◌≡◌, ◌≢◌, Bool, Some};
 ghost use Rattle.bx_desk.specs.Desk.{DeskState, Files};
+ghost use Rattle.bx_desk.specs.Quiet.{quiet_state};
 ghost use Rattle.bx_verilog.specs.Formulas.{Text};
 ghost use Rattle.bx_engine.specs.Answers.{Written};
-ghost use Rattle.bx_engine.specs.Effects.{WritesFile, FailsToWrite, file_at};
+ghost use Rattle.bx_engine.specs.Effects.{WritesFile, FailsToWrite, NoneRose, file_at};
 
 /// A file that was written has its text; every other file, what was said and the counts of failures stay.
 pub fn what_is_written_is_there()
@@ -25,4 +26,11 @@ pub fn what_is_not_written_stays()
         → file_at new.files name ≡ file_at old.files name }
     ensures said { (old new : DeskState) (file : Written) → FailsToWrite old new file
         → new.said ≡ old.said }
+{}
+
+/// Over a desk that never fails no call raises a count, so no status can blame it: its run is settled, or memory was
+/// refused.
+pub fn a_quiet_desk_is_never_blamed()
+    ensures { (before now : Bool)
+        → NoneRose (quiet_state before).faults (quiet_state now).faults }
 {}

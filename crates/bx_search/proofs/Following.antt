@@ -67,7 +67,7 @@ new-decision : (s : State) (l : Literal) → first_free s ≡ Some l.var → IsN
 new-decision s l first = AllByRecursion-from_member (λ (b : Assigned). b.literal.var ≢ l.var) (reverse s.trail)
     (λ b h. unassigned s.trail l.var b (free-first s l.var first) (from-reversed s.trail b h))
 
-with-step : (clauses : List (List Literal)) (steps : List Step) (step : Step) → with_steps clauses steps ++ step.literals ∷ [] ≡ with_steps clauses (steps ++ step ∷ [])
+pub with-step : (clauses : List (List Literal)) (steps : List Step) (step : Step) → with_steps clauses steps ++ step.literals ∷ [] ≡ with_steps clauses (steps ++ step ∷ [])
 with-step clauses steps step = append_assoc clauses (map (λ (x : Step). x.literals) steps) (step.literals ∷ []) ∙ ap (λ ls. clauses ++ ls) (sym (map-append (λ (x : Step). x.literals) steps (step ∷ [])))
 
 abbrev pub IsBackedState : Formula → State → Type 0

@@ -21,3 +21,6 @@ pub mod Places
 pub mod Deciding
 pub mod Ends
 pub mod Counting
+pub mod Codes
+pub mod QuietBelow
+pub mod Enough

@@ -41,7 +41,7 @@ rest-within x xs ys a within l h = elim (within l (inr h)) [
 ]
 
 -- ascending literals are given by which they are
-one-ascending : (low : ℕ) (xs ys : List Literal) → AscendAbove low xs → AscendAbove low ys → AreSame xs ys → xs ≡ ys
+pub one-ascending : (low : ℕ) (xs ys : List Literal) → AscendAbove low xs → AscendAbove low ys → AreSame xs ys → xs ≡ ys
 one-ascending low [] [] a b same = refl
 one-ascending low [] (y ∷ ys) a b same = absurd (same.1 y (inl refl))
 one-ascending low (x ∷ xs) [] a b same = absurd (same.0 x (inl refl))

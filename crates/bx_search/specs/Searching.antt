@@ -1,5 +1,5 @@
 -- The search: what an event makes of a state, and how the search ends.
-use Rattle.std.specs.Prelude.{◌≡◌, ◌≢◌, ℕ, zero, suc, ◌+◌, ◌-◌, ◌%◌, ◌<◌, ◌≤◌, nat_le, ◌==◌, if◌then◌else◌, List, [], ◌∷◌, ◌++◌, Some, None, false, map, filter, length, slice_set, slice_index_or}
+use Rattle.std.specs.Prelude.{◌≡◌, ◌≢◌, ℕ, zero, suc, ◌+◌, ◌-◌, ◌*◌, ◌%◌, ◌^◌, ◌<◌, ◌≤◌, nat_le, ◌==◌, if◌then◌else◌, List, [], ◌∷◌, ◌++◌, Some, None, false, map, filter, length, slice_set, slice_index_or}
 use Rattle.bx_cnf.specs.Literals.{Literal}
 use Rattle.bx_cnf.specs.Formulas.{Formula}
 use Rattle.bx_proof.specs.Steps.{Step}
@@ -49,6 +49,11 @@ levels_from clauses trail id = map (λ a. a.level) (treated_from clauses trail i
 -- what a step costs: its literals and its hints
 abbrev pub cost : Step → ℕ
 cost step = length step.literals + length step.hints
+
+-- What a search over so many variables costs at most: there are 3 ^ vars clauses over them, and a step has a
+-- literal for each at most, and one hint more.
+abbrev pub enough : ℕ → ℕ
+enough vars = 3 ^ vars * (2 * vars + 1)
 
 -- a step is added, from the false clause of this number
 abbrev pub learned : Formula → State → ℕ → Step → State

@@ -1,15 +1,16 @@
 //! Laws about the definitions alone, each the clause of a function with an empty body. Nothing here
 //! runs.
-ghost use Rattle.std.specs.Prelude.{◌≡◌, ℕ, ◌<◌, ◌≤◌, Bool, List, length, All};
+ghost use Rattle.std.specs.Prelude.{◌≡◌, ◌≢◌, ℕ, [], ◌*◌, ◌+◌, ◌^◌, ◌<◌, ◌≤◌, Bool, List, length, All, Contains};
 ghost use Rattle.bx_cnf.specs.Literals.{Literal};
 ghost use Rattle.bx_cnf.specs.Formulas.{Formula, IsFormula, AllTrue};
-ghost use Rattle.bx_proof.specs.Steps.{StepList};
+ghost use Rattle.bx_proof.specs.Steps.{Step, StepList};
 ghost use Rattle.bx_proof.specs.Accepted.{EachFollows, IsAccepted};
-ghost use Rattle.bx_search.specs.States.{Assigned, State, clauses_of, current_level};
+ghost use Rattle.bx_watch.specs.Watching.{NoneActive};
+ghost use Rattle.bx_search.specs.States.{Assigned, State, clauses_of, literals_of, current_level};
 ghost use Rattle.bx_search.specs.Learning.{treated_from, of_level};
-ghost use Rattle.bx_search.specs.Searching.{After, IsSearch};
+ghost use Rattle.bx_search.specs.Searching.{After, IsConflict, IsSearch, cost, enough, up_to};
 ghost use Rattle.bx_search.specs.declared.outcome.Outcome.{Outcome};
-ghost use Rattle.bx_search.specs.declared.outcome.Outcome.TheVariants.{Sat, Unsat};
+ghost use Rattle.bx_search.specs.declared.outcome.Outcome.TheVariants.{Sat, Unsat, Undecided};
 
 /// No literal of level 0 is kept in a learned clause.
 pub fn nothing_of_level_0_is_kept()
@@ -66,4 +67,38 @@ pub fn a_search_ends()
 pub fn a_search_learns_within_its_budget()
     ensures { (formula : Formula) (budget count : ℕ) (end : Outcome)
         → IsSearch formula budget end count → count ≤ budget }
+{}
+
+/// In a state that the search reaches no clause is active up to a level below the current one.
+pub fn no_clause_is_active_below_the_current_level()
+    ensures { (formula : Formula) (budget events level : ℕ) (s : State)
+        → After formula budget events s → level < current_level s.trail
+        → NoneActive (literals_of (up_to level s.trail)) (clauses_of formula s) }
+{}
+
+/// A clause that is learned is none of the formula's and none of those learned before it, unless it is
+/// empty.
+pub fn a_learned_clause_is_new()
+    ensures { (formula : Formula) (budget events : ℕ) (s : State) (id : ℕ) (step : Step)
+        → After formula budget events s → IsConflict formula s id step → step.literals ≢ []
+        → Contains (clauses_of formula s) step.literals → ⊥ }
+{}
+
+/// A search learns fewer clauses that aren't empty than there are clauses over its variables.
+pub fn a_search_learns_few_clauses()
+    ensures { (formula : Formula) (budget count : ℕ) (end : Outcome) → IsFormula formula
+        → IsSearch formula budget end count → count < 3 ^ formula.vars }
+{}
+
+/// A step costs at most two for each variable, and one more.
+pub fn a_step_costs_little()
+    ensures { (formula : Formula) (budget events : ℕ) (s : State) (id : ℕ) (step : Step)
+        → IsFormula formula → After formula budget events s → IsConflict formula s id step
+        → cost step ≤ 2 * formula.vars + 1 }
+{}
+
+/// A budget that pays for each clause over the variables is never passed.
+pub fn a_budget_is_enough()
+    ensures { (formula : Formula) (budget count spent : ℕ) → IsFormula formula
+        → enough formula.vars ≤ budget → IsSearch formula budget (Undecided spent) count → ⊥ }
 {}

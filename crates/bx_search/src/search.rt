@@ -5,7 +5,7 @@ ghost use Rattle.bx_cnf.specs.Formulas.{AllTrue};
 ghost use Rattle.bx_proof.specs.Steps.{StepList};
 ghost use Rattle.bx_proof.specs.Accepted.{IsAccepted};
 ghost use Rattle.bx_search.specs.States.{start};
-ghost use Rattle.bx_search.specs.Searching.{IsSearch};
+ghost use Rattle.bx_search.specs.Searching.{IsSearch, enough};
 ghost use Rattle.bx_search.specs.Solving.{IsReached, IsSolver, state_of, TurnsTo, IsAnswer, outcome_of};
 ghost use Rattle.bx_search.specs.declared.outcome.Outcome.{Outcome as End};
 
@@ -55,6 +55,10 @@ pub fn solve<P: Pulse>(
 
     // Where it wasn't stopped the pulse may be asked again.
     ensures still_ready { IfOk result (λ end. end ≢ Outcome.Stopped → P.ready pulse.new) }
+
+    // A budget that pays for each clause over the variables is never passed.
+    ensures decides { IfOk result (λ end. enough clauses.now.vars ≤ budget
+        → (spent : ℕ) → end ≢ Outcome.Undecided spent) }
 
     // Bits that it gives are one for each variable, and make all clauses true.
     ensures solved { IfOk result (λ end. (bits : List Bool) → end ≡ Outcome.Sat bits

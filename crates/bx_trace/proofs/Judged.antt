@@ -1,58 +1,14 @@
 -- Where some legal layout has the form grid and the places, the one that is made from the forms is such a layout.
-use Rattle.std.proofs.Common.{◌≡◌, ◌↔◌, ℕ, Bool, List, Option, Some, None, inl, inr, refl, sym, ap, ◌∙◌, subst}
-use Rattle.std.specs.Prelude.{IsTrue, Result, Ok, Err, IfOk}
-use Rattle.bx_forms.specs.Forms.{IsForm}
-use Rattle.bx_forms.proofs.Nodes.{node-within}
+use Rattle.std.proofs.Common.{◌≡◌, ◌↔◌, ℕ, Bool, List, Option, sym, ap, ◌∙◌, subst}
+use Rattle.std.specs.Prelude.{IsTrue}
 use Rattle.bx_grid.specs.declared.ratio.Ratio.{Ratio}
-use Rattle.bx_grid.specs.Tiles.{IsTile}
 use Rattle.bx_network.specs.Networks.{Network, IsNetwork}
 use Rattle.bx_layout.specs.declared.layout.Layout.{Layout}
-use Rattle.bx_layout.specs.Grids.{FormGrid, form_at}
-use Rattle.bx_layout.specs.Legal.{IsLegal}
-use Rattle.bx_layout.specs.Permits.{PermitTest, Allows, all_forms}
-use Rattle.bx_layout.specs.TileForms.{HasForm, IsFormGridOf}
+use Rattle.bx_layout.specs.Grids.{FormGrid}
 use Rattle.bx_trace.specs.Known.{AreNodesAt, IsLayoutOf, IsStraight, KnowsTargets}
-use Rattle.bx_trace.specs.Traced.{HasFormGrid, IsLegalWith, IsTraced}
+use Rattle.bx_trace.specs.Traced.{IsLegalWith, IsTraced}
 use Rattle.bx_trace.proofs.Relabelled.{relabelled, new-legal, new-forms}
 use Rattle.bx_trace.proofs.Straight.{partner, partner-twins, partner-back, straightened}
-
--- ---- a permit that bars no form
-
-pub form-has : (N : Network) (L : Layout) (t form : ℕ) → HasForm N L t form → IsForm form
-form-has N L t form (inl a) = node-within form a.node.kind a.form_of.uses.node
-form-has N L t form (inr b) = b.wire_of.form
-
-pub under-every : (N : Network) (permit : PermitTest) (L : Layout) → ((r : Ratio) (t form : ℕ) → IsForm form → Allows permit r t form) → IsLegal N all_forms L → IsLegal N permit L
-under-every N permit L all legal = record {
-  grid = legal.grid;
-  placed = legal.placed;
-  ends = legal.ends;
-  stays = legal.stays;
-  balanced = legal.balanced;
-  alone = legal.alone;
-  permitted = λ t form inside has. all L.ratio t form (form-has N L t form has);
-}
-
--- ---- grids with the same forms
-
-pub same-grid : (N : Network) (L : Layout) (g h : FormGrid) → IsFormGridOf N L h → g.ratio ≡ L.ratio → ((t : ℕ) → IsTile h.ratio t → form_at h t ≡ form_at g t) → HasFormGrid N L g
-same-grid N L g h of ratio same = record {
-  ratio = ratio;
-  each = λ t form inside.
-      let e = same t (subst (λ r. IsTile r t) (sym of.ratio) inside) in
-      ((λ is. (of.each t form inside).0 (e ∙ is)), (λ has. sym e ∙ (of.each t form inside).1 has));
-}
-
-same-option : (o p : Option ℕ) → ((n : ℕ) → (o ≡ Some n) ↔ (p ≡ Some n)) → o ≡ p
-same-option None None h = refl
-same-option None (Some n) h = (h n).1 refl
-same-option (Some n) p h = sym ((h n).0 refl)
-
-pub grids-same : (N : Network) (L : Layout) (g h : FormGrid) → IsFormGridOf N L h → HasFormGrid N L g → (t : ℕ) → IsTile h.ratio t → form_at h t ≡ form_at g t
-grids-same N L g h of has t inside =
-    let here = subst (λ r. IsTile r t) of.ratio inside in
-    same-option (form_at h t) (form_at g t) (λ form.
-    ((λ is. (has.each t form here).1 ((of.each t form here).0 is)), (λ is. (of.each t form here).1 ((has.each t form here).0 is))))
 
 -- ---- the layout that is made
 
@@ -107,6 +63,5 @@ made-with N g places own r nodes known targets told edges network ratio same at_
 
 -- ---- an answer
 
-pub asked : {E : Type 0} (answer : Result Bool E) (P Q : Type 0) → (P → Q) → (Q → P) → IfOk answer (λ b. IsTrue b ↔ P) → IfOk answer (λ b. IsTrue b ↔ Q)
-asked (Ok b) P Q forth back h = ((λ t. forth (h.0 t)), (λ q. h.1 (back q)))
-asked (Err e) P Q forth back h = h
+pub answered : (b : Bool) (P Q : Type 0) → (P → Q) → (Q → P) → (IsTrue b ↔ P) → IsTrue b ↔ Q
+answered b P Q forth back h = ((λ t. forth (h.0 t)), (λ q. h.1 (back q)))

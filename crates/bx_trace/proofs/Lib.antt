@@ -3,6 +3,7 @@ pub mod Steps
 pub mod Relabelled
 pub mod Straight
 pub mod Judged
+pub mod Linear
 pub mod Standing
 pub mod Unique
 pub mod Meaning

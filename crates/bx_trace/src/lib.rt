@@ -4,9 +4,13 @@
 //! by what the layouts themselves ask of it. How a form grid or places are read is for others.
 #![tactic(auto)]
 
+mod around;
 mod border_edges;
+mod forms;
 pub mod laws;
+mod legal;
 mod nodes;
+mod passed;
 mod passing;
 mod trace;
 mod ways;

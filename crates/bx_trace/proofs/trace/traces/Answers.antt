@@ -2,7 +2,7 @@ use Rattle.std.proofs.Common.{◌≡◌, ℕ, List, Option, sym, ◌∙◌, subs
 use Rattle.bx_network.proofs.Lists.{got-within}
 use Rattle.bx_trace.specs.Known.{AreNodesAt}
 use Rattle.bx_trace.specs.Traced.{IsLegalWith, IsTraced}
-use Rattle.bx_trace.proofs.Judged.{laid, made-with, asked}
+use Rattle.bx_trace.proofs.Judged.{laid, made-with, answered}
 use Rattle.bx_trace.proofs.trace.traces.Goals as goal
 
 pub borders-requires-clause-own : goal.borders-requires-clause-own
@@ -16,7 +16,7 @@ borders-requires-clause-own c = λ t v is.
 
 pub returns : goal.returns
 returns c =
-    asked c.has_form_grid.result (IsLegalWith c.args.net.now (laid c.ratio-ratio.result c.new.result c.new-2.result) c.args.grid.now) (IsTraced c.args.net.now c.args.grid.now c.args.places.now)
+    answered c.is_layout_of.result (IsLegalWith c.args.net.now (laid c.ratio-ratio.result c.new.result c.new-2.result) c.args.grid.now) (IsTraced c.args.net.now c.args.grid.now c.args.places.now)
     (λ w. record {
       layout = laid c.ratio-ratio.result c.new.result c.new-2.result;
       stands = same;
@@ -27,7 +27,7 @@ returns c =
     made-with c.args.net.now c.args.grid.now c.args.places.now c.new.result c.ratio-ratio.result c.deref.result.now c.deref-2.result.now c.in_ok-targets.targets.items c.deref-3.result.now c.new-2.result
     c.node_count.ensures.network c.ratio-ratio.ensures.same same (at c.deref.result.now c.deref.ensures.value) (at c.deref-2.result.now c.deref-2.ensures.value) c.deref-3.ensures.value
     c.in_ok-targets.ensures.known (λ L of straight known. c.new-2.ensures ∙ c.in_ok-edges.ensures L of straight known) traced)
-    c.has_form_grid.ensures
+    c.is_layout_of.ensures
   where
     same : c.new.result ≡ c.args.places.now
     same = c.new.ensures ∙ c.in_ok-from_slice.ensures.items

@@ -2,7 +2,10 @@
 //! that two blanks have an empty word between them.
 
 use crate::asserts::is_text_in;
-use bx_words::{Command, DesignCommand, NoCommand, WordFault, read_words};
+use bx_words::{
+    Command, DesignCommand, ExtractCommand, NoCommand, SampleCommand, VerifyCommand, WordFault,
+    read_words,
+};
 use std::alloc::{AllocError, Global};
 use std::test::Fail;
 
@@ -83,12 +86,14 @@ const COMMANDS: &[&str] = &[
     "draw n l d c",
     "Design n l d c",
     "designs n l d c",
+    "extracts l d",
+    "Verify n l d c",
     " design n l d c",
     "--help",
     "-- design n l d c",
 ];
 
-// Words that `design` doesn't take.
+// Words that their command doesn't take.
 const USAGES: &[&str] = &[
     "design",
     "design n",
@@ -123,6 +128,18 @@ const USAGES: &[&str] = &[
     // Usage comes before what is wrong with numbers and names.
     "design n n n n n --area x",
     "design n l d --area 0",
+    // The other commands have no such options, and other numbers of files.
+    "verify n l d",
+    "verify n l d c e",
+    "verify n l d c --area 5",
+    "verify n l d c --workers 5 --workers 5",
+    "extract l",
+    "extract l d c",
+    "extract l d --workers 4",
+    "sample 1 1",
+    "sample 1 1 0 0",
+    "sample 1 1 -1",
+    "sample 1 1 0 --workers 4",
 ];
 
 // Words with a first fault behind their use, and the fault.
@@ -196,6 +213,17 @@ const FAULTS: &[(&str, &str)] = &[
         "design n l d c --area 144 --width 1 --budget 466034",
         "work 67108896",
     ),
+    ("verify n l d c --workers x", "number workers"),
+    ("verify n l d c --workers 0", "range workers"),
+    ("verify n l d c --workers 17", "range workers"),
+    ("sample x y z", "number number"),
+    ("sample 9999999999 +1 z", "number gates"),
+    ("sample 9999999999 0 00000000001", "number extra"),
+    ("sample 2147483648 0 10001", "range number"),
+    ("sample 2147483647 0 10001", "range gates"),
+    ("sample 2147483647 33 10001", "range gates"),
+    ("sample 2147483647 32 10001", "range extra"),
+    ("sample  1 0", "number number"),
 ];
 
 #[test]
@@ -249,7 +277,7 @@ fn told(alloc: Global, line: &str) -> Result<String, AllocError> {
 
 fn answer_to(alloc: Global, words: &[String]) -> Result<String, AllocError> {
     match read_words(alloc, words) {
-        Ok(Command::Design(design)) => design_text(alloc, &design),
+        Ok(command) => command_text(alloc, &command),
         Err(NoCommand::Fault(fault)) => fault_text(alloc, fault),
         Err(NoCommand::NoMemory) => String::from_str(alloc, "no memory"),
     }
@@ -261,6 +289,40 @@ fn words_of(alloc: Global, line: &str) -> Result<Vec<String>, AllocError> {
         words.push(String::from_str(alloc, word)?)?;
     }
     Ok(words)
+}
+
+fn command_text(alloc: Global, command: &Command<'_>) -> Result<String, AllocError> {
+    match command {
+        Command::Design(design) => design_text(alloc, design),
+        Command::Verify(verify) => verify_text(alloc, verify),
+        Command::Extract(extract) => extract_text(alloc, extract),
+        Command::Sample(sample) => sample_text(alloc, sample),
+    }
+}
+
+fn verify_text(alloc: Global, verify: &VerifyCommand<'_>) -> Result<String, AllocError> {
+    let VerifyCommand {
+        net,
+        lib,
+        design,
+        cert,
+        workers,
+    } = *verify;
+    format!(in alloc; "verify {net} {lib} {design} {cert} {workers}")
+}
+
+fn extract_text(alloc: Global, extract: &ExtractCommand<'_>) -> Result<String, AllocError> {
+    let ExtractCommand { lib, design } = *extract;
+    format!(in alloc; "extract {lib} {design}")
+}
+
+fn sample_text(alloc: Global, sample: &SampleCommand) -> Result<String, AllocError> {
+    let SampleCommand {
+        number,
+        gates,
+        extra,
+    } = *sample;
+    format!(in alloc; "sample {number} {gates} {extra}")
 }
 
 fn design_text(alloc: Global, design: &DesignCommand<'_>) -> Result<String, AllocError> {

@@ -1,15 +1,16 @@
 -- The first fault is the one whose cause stands.
-use Rattle.std.proofs.Common.{◌≡◌, ℕ, ◌<◌, nat_lt, ◌↔◌, Bool, true, false, List, [], ◌∷◌, Option, Some, None, refl, sym, ap, subst, ◌∙◌, ltb-true, lt-ltb}
+use Rattle.std.proofs.Common.{◌≡◌, ℕ, suc, ◌<◌, nat_lt, ◌↔◌, Bool, true, false, List, [], ◌∷◌, Option, Some, None, refl, sym, ap, subst, ◌∙◌, arith, ltb-true, lt-ltb}
 use Rattle.std.specs.Prelude.{find, if◌then◌else◌}
+use Rattle.std.specs.List.{Contains}
 use Rattle.std.specs.Option.{option_map_or}
 use Rattle.std.proofs.lemmas.Bool.{true≢false}
 use Rattle.bx_words.specs.declared.opts.Opt.{Opt}
 use Rattle.bx_words.specs.declared.verbs.Verb.{Verb}
-use Rattle.bx_words.specs.declared.verbs.Verb.TheVariants.{Design}
+use Rattle.bx_words.specs.declared.verbs.Verb.TheVariants.{Design, Verify, Extract, Sample}
 use Rattle.bx_words.specs.declared.faults.WordFault.{WordFault}
 use Rattle.bx_words.specs.declared.faults.WordFault.TheVariants.{Command as NoVerb, Usage, Number, Range, Same, Work}
 use Rattle.bx_words.specs.Options.{most_work}
-use Rattle.bx_words.specs.Verbs.{Text, line_of, verb_of}
+use Rattle.bx_words.specs.Verbs.{Text, line_of, opts_of, verb_of}
 use Rattle.bx_words.specs.Clap.{has_matches, rows, given_in, named_in}
 use Rattle.bx_words.specs.Names.{is_written_over}
 use Rattle.bx_words.specs.Numbers.{AreTaken, Given, first_no_number, first_out_of_range, is_no_number, is_out_of_range}
@@ -32,14 +33,14 @@ is_cause words a b cause e = subst (λ (f : WordFault). IsCause words f) (one a 
 
 distinct : (verb : Verb) → are_files (line_of verb).read (line_of verb).written ≡ true
 distinct Design = refl
-
-pub all_taken : (verb : Verb) (given : Given) → option_fault (line_of verb).options given ≡ None → AreTaken given
-all_taken Design given none = taken given none
+distinct Verify = refl
+distinct Extract = refl
+distinct Sample = refl
 
 abbrev pub over_in : List Text → Verb → Bool
 over_in words verb = is_written_over (rows verb words) (line_of verb).read (line_of verb).written
 
-has_one_name : (words : List Text) (verb : Verb) → IsRead words verb → AreTaken (given_in (rows verb words)) → over_in words verb ≡ true
+has_one_name : (words : List Text) (verb : Verb) → IsRead words verb → AreTaken (opts_of (line_of verb)) (given_in (rows verb words)) → over_in words verb ≡ true
     → HasOneName words
 has_one_name words verb read are e =
     let o = over (rows verb words) (line_of verb).read (line_of verb).written (distinct verb) e in
@@ -71,7 +72,7 @@ apart words verb read e h =
     let same : h.verb ≡ verb = one_verb (verb_of words) h.verb verb h.is_read.first read.first in
     true≢false (sym (subst (λ (v : Verb). over_in words v ≡ true) same (over_one_name words h)) ∙ e)
 
-not_over : (words : List Text) (verb : Verb) → IsRead words verb → AreTaken (given_in (rows verb words)) → (HasOneName words → ⊥)
+not_over : (words : List Text) (verb : Verb) → IsRead words verb → AreTaken (opts_of (line_of verb)) (given_in (rows verb words)) → (HasOneName words → ⊥)
     → over_in words verb ≡ false
 not_over words verb read are differ = go (over_in words verb) refl
   where
@@ -82,25 +83,28 @@ not_over words verb read are differ = go (over_in words verb) refl
 -- ---- the cause of the first fault
 
 range_cause : (words : List Text) (verb : Verb) (fault : WordFault) → IsRead words verb
-    → first_no_number (line_of verb).options (given_in (rows verb words)) ≡ None
-    → (o : Option Opt) → first_out_of_range (line_of verb).options (given_in (rows verb words)) ≡ o
+    → first_no_number (opts_of (line_of verb)) (given_in (rows verb words)) ≡ None
+    → (o : Option Opt) → first_out_of_range (opts_of (line_of verb)) (given_in (rows verb words)) ≡ o
     → option_map_or (λ x. Some (Range x)) o None ≡ Some fault → IsCause words fault
 range_cause words verb fault read numbers None e h = absurd (none_some fault h)
 range_cause words verb fault read numbers (Some o) e h =
     is_cause words (Range o) fault (record { verb = verb; is_read = read; numbers = numbers; first = e }) h
 
 number_cause : (words : List Text) (verb : Verb) (fault : WordFault) → IsRead words verb
-    → (o : Option Opt) → first_no_number (line_of verb).options (given_in (rows verb words)) ≡ o
+    → (o : Option Opt) → first_no_number (opts_of (line_of verb)) (given_in (rows verb words)) ≡ o
     → or_next (option_map_or (λ x. Some (Number x)) o None)
-    (option_map_or (λ x. Some (Range x)) (first_out_of_range (line_of verb).options (given_in (rows verb words))) None) ≡ Some fault
+    (option_map_or (λ x. Some (Range x)) (first_out_of_range (opts_of (line_of verb)) (given_in (rows verb words))) None) ≡ Some fault
     → IsCause words fault
 number_cause words verb fault read None e h =
-    range_cause words verb fault read e (first_out_of_range (line_of verb).options (given_in (rows verb words))) refl h
+    range_cause words verb fault read e (first_out_of_range (opts_of (line_of verb)) (given_in (rows verb words))) refl h
 number_cause words verb fault read (Some o) e h =
     is_cause words (Number o) fault (record { verb = verb; is_read = read; first = e }) h
 
-own_cause : (words : List Text) (verb : Verb) (fault : WordFault) → IsRead words verb → AreTaken (given_in (rows verb words))
+own_cause : (words : List Text) (verb : Verb) (fault : WordFault) → IsRead words verb → AreTaken (opts_of (line_of verb)) (given_in (rows verb words))
     → over_in words verb ≡ false → own_fault verb (rows verb words) ≡ Some fault → IsCause words fault
+own_cause words Verify fault read are two h = absurd (none_some fault h)
+own_cause words Extract fault read are two h = absurd (none_some fault h)
+own_cause words Sample fault read are two h = absurd (none_some fault h)
 own_cause words Design fault read are two h = go (nat_lt most_work work) refl h
   where
     work : ℕ
@@ -117,24 +121,24 @@ own_cause words Design fault read are two h = go (nat_lt most_work work) refl h
           many = ltb-true most_work work e;
         }) h
 
-same_cause : (words : List Text) (verb : Verb) (fault : WordFault) → IsRead words verb → AreTaken (given_in (rows verb words))
+same_cause : (words : List Text) (verb : Verb) (fault : WordFault) → IsRead words verb → AreTaken (opts_of (line_of verb)) (given_in (rows verb words))
     → (t : Bool) → over_in words verb ≡ t → or_next (if t then Some Same else None) (own_fault verb (rows verb words)) ≡ Some fault
     → IsCause words fault
 same_cause words verb fault read are true e h = is_cause words Same fault (has_one_name words verb read are e) h
 same_cause words verb fault read are false e h = own_cause words verb fault read are e h
 
 found_cause : (words : List Text) (verb : Verb) (fault : WordFault) → IsRead words verb
-    → (f : Option WordFault) → option_fault (line_of verb).options (given_in (rows verb words)) ≡ f
+    → (f : Option WordFault) → option_fault (opts_of (line_of verb)) (given_in (rows verb words)) ≡ f
     → or_next f (or_next (same_fault verb (rows verb words)) (own_fault verb (rows verb words))) ≡ Some fault → IsCause words fault
 found_cause words verb fault read None e h =
-    same_cause words verb fault read (all_taken verb (given_in (rows verb words)) e) (over_in words verb) refl h
+    same_cause words verb fault read (taken (opts_of (line_of verb)) (given_in (rows verb words)) e) (over_in words verb) refl h
 found_cause words verb fault read (Some x) e h =
-    is_cause words x fault (number_cause words verb x read (first_no_number (line_of verb).options (given_in (rows verb words))) refl e) h
+    is_cause words x fault (number_cause words verb x read (first_no_number (opts_of (line_of verb)) (given_in (rows verb words))) refl e) h
 
 verb_cause : (words : List Text) (verb : Verb) (fault : WordFault) → verb_of words ≡ Some verb
     → (t : Bool) → has_matches verb words ≡ t → (if t then found_fault verb (rows verb words) else Some Usage) ≡ Some fault → IsCause words fault
 verb_cause words verb fault first true e h =
-    found_cause words verb fault (record { first = first; has = e }) (option_fault (line_of verb).options (given_in (rows verb words))) refl h
+    found_cause words verb fault (record { first = first; has = e }) (option_fault (opts_of (line_of verb)) (given_in (rows verb words))) refl h
 verb_cause words verb fault first false e h = is_cause words Usage fault (verb, record { first = first; has = e }) h
 
 word_cause : (words : List Text) (fault : WordFault) (v : Option Verb) → verb_of words ≡ v
@@ -144,15 +148,16 @@ word_cause words fault (Some verb) e h = verb_cause words verb fault e (has_matc
 
 -- ---- the first fault where a cause stands
 
-find_never : (p : Opt → Bool) (xs : List Opt) → ((o : Opt) → p o ≡ false) → find p xs ≡ None
+find_never : (p : Opt → Bool) (xs : List Opt) → ((o : Opt) → Contains xs o → p o ≡ false) → find p xs ≡ None
 find_never p [] never = refl
-find_never p (x ∷ xs) never = rw (never x) (find_never p xs never)
+find_never p (x ∷ xs) never =
+    rw (never x (0, omega arith, refl)) (find_never p xs (λ o is. never o (suc is.0, omega (arith, is.1), is.2)))
 
-none_wrong : (options : List Opt) (given : Given) → AreTaken given → option_fault options given ≡ None
+none_wrong : (options : List Opt) (given : Given) → AreTaken options given → option_fault options given ≡ None
 none_wrong options given are =
     ap (λ n. or_next (option_map_or (λ o. Some (Number o)) n None) (option_map_or (λ o. Some (Range o)) (first_out_of_range options given) None))
-    (find_never (is_no_number given) options (λ o. (are o).0))
-    ∙ ap (λ r. option_map_or (λ o. Some (Range o)) r None) (find_never (is_out_of_range given) options (λ o. (are o).1))
+    (find_never (is_no_number given) options (λ o is. (are o is).0))
+    ∙ ap (λ r. option_map_or (λ o. Some (Range o)) r None) (find_never (is_out_of_range given) options (λ o is. (are o is).1))
 
 named_fault : (words : List Text) (verb : Verb) → verb_of words ≡ Some verb → first_fault words ≡ verb_fault words verb
 named_fault words verb e = ap (λ v. option_map_or (verb_fault words) v (Some NoVerb)) e
@@ -164,11 +169,11 @@ read_fault words verb read =
 abbrev later_fault : List Text → Verb → Option WordFault
 later_fault words verb = or_next (same_fault verb (rows verb words)) (own_fault verb (rows verb words))
 
-taken_fault : (words : List Text) (verb : Verb) → IsRead words verb → AreTaken (given_in (rows verb words))
+taken_fault : (words : List Text) (verb : Verb) → IsRead words verb → AreTaken (opts_of (line_of verb)) (given_in (rows verb words))
     → first_fault words ≡ later_fault words verb
 taken_fault words verb read are =
     read_fault words verb read
-    ∙ ap (λ f. or_next f (later_fault words verb)) (none_wrong (line_of verb).options (given_in (rows verb words)) are)
+    ∙ ap (λ f. or_next f (later_fault words verb)) (none_wrong (opts_of (line_of verb)) (given_in (rows verb words)) are)
 
 pub cause_fault : (words : List Text) (fault : WordFault) → IsCause words fault → first_fault words ≡ Some fault
 cause_fault words NoVerb h = ap (λ v. option_map_or (verb_fault words) v (Some NoVerb)) h
@@ -177,12 +182,12 @@ cause_fault words Usage (verb, m) =
 cause_fault words (Number o) h =
     read_fault words h.verb h.is_read
     ∙ ap (λ n. or_next (or_next (option_map_or (λ x. Some (Number x)) n None)
-    (option_map_or (λ x. Some (Range x)) (first_out_of_range (line_of h.verb).options (given_in (rows h.verb words))) None))
+    (option_map_or (λ x. Some (Range x)) (first_out_of_range (opts_of (line_of h.verb)) (given_in (rows h.verb words))) None))
     (later_fault words h.verb)) h.first
 cause_fault words (Range o) h =
     read_fault words h.verb h.is_read
     ∙ ap (λ n. or_next (or_next (option_map_or (λ x. Some (Number x)) n None)
-    (option_map_or (λ x. Some (Range x)) (first_out_of_range (line_of h.verb).options (given_in (rows h.verb words))) None))
+    (option_map_or (λ x. Some (Range x)) (first_out_of_range (opts_of (line_of h.verb)) (given_in (rows h.verb words))) None))
     (later_fault words h.verb)) h.numbers
     ∙ ap (λ r. or_next (option_map_or (λ x. Some (Range x)) r None) (later_fault words h.verb)) h.first
 cause_fault words Same h =

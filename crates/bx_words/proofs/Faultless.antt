@@ -10,17 +10,18 @@ use Rattle.bx_words.specs.declared.verbs.Verb.{Verb}
 use Rattle.bx_words.specs.declared.verbs.Verb.TheVariants.{Design}
 use Rattle.bx_words.specs.declared.faults.WordFault.{WordFault}
 use Rattle.bx_words.specs.declared.faults.WordFault.TheVariants.{Command as NoVerb, Usage, Same}
-use Rattle.bx_words.specs.Verbs.{Text, line_of, verb_of}
+use Rattle.bx_words.specs.Verbs.{Text, line_of, opts_of, verb_of}
 use Rattle.bx_words.specs.Clap.{has_matches, rows, given_in, named_in}
 use Rattle.bx_words.specs.Names.{AreApart, is_same, is_written_over}
 use Rattle.bx_words.specs.Numbers.{AreTaken}
 use Rattle.bx_words.specs.Words.{first_fault, verb_fault, found_fault, option_fault, same_fault, own_fault, or_next}
-use Rattle.bx_words.proofs.CauseLemmas.{all_taken, over_in}
+use Rattle.bx_words.proofs.CauseLemmas.{over_in}
+use Rattle.bx_words.proofs.Taken.{taken as all_taken}
 use Rattle.bx_words.proofs.Over.{same_name}
 
 pub record IsFaultless (words : List Text) (verb : Verb) : Type 0 where
   pub has : has_matches verb words ≡ true
-  pub taken : AreTaken (given_in (rows verb words))
+  pub taken : AreTaken (opts_of (line_of verb)) (given_in (rows verb words))
   pub apart : over_in words verb ≡ false
   pub own : own_fault verb (rows verb words) ≡ None
 
@@ -40,12 +41,12 @@ pub faultless : (words : List Text) (verb : Verb) → first_fault words ≡ None
 faultless words verb none first =
     let read : verb_fault words verb ≡ None = sym (ap (λ v. option_map_or (verb_fault words) v (Some NoVerb)) first) ∙ none in
     let found = not_else (has_matches verb words) Usage (found_fault verb (rows verb words)) read in
-    let two = neither (option_fault (line_of verb).options (given_in (rows verb words)))
+    let two = neither (option_fault (opts_of (line_of verb)) (given_in (rows verb words)))
     (or_next (same_fault verb (rows verb words)) (own_fault verb (rows verb words))) found.1 in
     let three = neither (same_fault verb (rows verb words)) (own_fault verb (rows verb words)) two.1 in
     record {
       has = found.0;
-      taken = all_taken verb (given_in (rows verb words)) two.0;
+      taken = all_taken (opts_of (line_of verb)) (given_in (rows verb words)) two.0;
       apart = not_then (over_in words verb) Same three.0;
       own = three.1;
     }

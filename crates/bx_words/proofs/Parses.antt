@@ -15,7 +15,7 @@ use Rattle.clap.specs.declared.parser.matches.ArgMatches.{ArgMatches}
 use Rattle.clap.proofs.OnLiterals.{clap_on_literals}
 use Rattle.clap.proofs.WalkLemmas.{both}
 use Rattle.bx_words.specs.declared.verbs.Verb.{Verb}
-use Rattle.bx_words.specs.declared.verbs.Verb.TheVariants.{Design}
+use Rattle.bx_words.specs.declared.verbs.Verb.TheVariants.{Design, Verify, Extract, Sample}
 use Rattle.bx_words.specs.Verbs.{Line, line_of}
 use Rattle.bx_words.specs.Clap.{app_of_line, rules_of, rows_in, has_matches, rows}
 use Rattle.bx_words.specs.Built.{IsBuilt}
@@ -25,10 +25,16 @@ use Rattle.bx_words.proofs.Arguments.{all_fit, is_ours}
 
 pub ours : (verb : Verb) → list_all is_ours (rules_of (line_of verb)) ≡ true
 ours Design = refl
+ours Verify = refl
+ours Extract = refl
+ours Sample = refl
 
 simple : (verb : Verb) → is_simple_and_free (app_of_line (line_of verb)) ≡ true
 unfolding clap_on_literals
 simple Design = refl
+simple Verify = refl
+simple Extract = refl
+simple Sample = refl
 
 -- ---- the command
 
@@ -63,7 +69,7 @@ built_app line c b own =
     ∙ ap (λ rules. app_with rules) b.rules
   where
     app_with : List Rule → App
-    app_with rules = with_rules (app_of_line (record line { read = []; written = []; options = [] })) rules
+    app_with rules = with_rules (app_of_line (record line { read = []; written = []; numbers = []; options = [] })) rules
 
 pub plain_app : (verb : Verb) (c : Command) → IsBuilt (line_of verb) c → is_simple_and_free (app_of c) ≡ true
 plain_app verb c b = ap is_simple_and_free (built_app (line_of verb) c b (ours verb)) ∙ simple verb

@@ -10,9 +10,9 @@ use Rattle.std.proofs.lemmas.List.Folds.{list_all-append, list_any-append}
 use Rattle.clap.specs.Facts.{explicit_source, unwrap_or_range}
 use Rattle.clap.specs.Kinds.{Kinds, check_kinds, or_else, range_kinds}
 use Rattle.clap.specs.Lexer.{long_of, short_of}
-use Rattle.clap.specs.Simple.{Shape, argument_words, built, filled_from, index_after, matches_of}
+use Rattle.clap.specs.Simple.{Shape, argument_words, built, filled_from, index_after, matches_of, new_rule}
 use Rattle.clap.specs.Takes.{is_given}
-use Rattle.clap.specs.Walk.{Held, Names, Outcome, Row, Rule, Step, Waiting, Walk, idle, option, positional, done, waits, plain, refused, next, trailing, subcommand, value, action_of, after_flag, after_step, arg_by_id, arg_by_index, arg_by_long, arg_by_short, at_row, attached_value, bundle, bundle_met, bundle_step, default_rows, finished, flag_met, has_row, is_empty, is_pending, long_met, long_or_other, most_values, more_values, nothing_held, option_met, option_word, plain_word, reacted, reading_by, settled, settled_rows, short_met, short_or_plain, subcommand_met, subcommand_or_other, takes_several, takes_values, to_positional, used, used_as, used_by_id, values_or_missing, walk, walk_from, walked, walked_from, with_default, with_values, without, word_met}
+use Rattle.clap.specs.Walk.{Held, Names, Outcome, Row, Rule, Step, Waiting, Walk, idle, option, positional, done, waits, plain, refused, next, trailing, subcommand, value, action_of, after_flag, after_step, arg_by_id, arg_by_index, arg_by_long, arg_by_short, at_row, attached_value, bundle, bundle_met, bundle_step, default_rows, finished, first_of, flag_met, has_row, is_empty, is_pending, long_met, long_or_other, most_values, more_values, nothing_held, option_met, option_word, plain_word, reacted, reading_by, settled, settled_rows, short_met, short_or_plain, subcommand_met, subcommand_or_other, takes_several, takes_values, to_positional, used, used_as, used_by_id, values_or_missing, walk, walk_from, walked, walked_from, with_default, with_values, without, word_met}
 use Rattle.clap.specs.Faults.{bundle_fault, bundle_step_fault, check_fault, defaults_fault, fault_of, flag_word_fault, flags_fault, level_fault, long_fault, option_fault, other_fault, positional_fault, react_fault, settle_fault, short_fault, step_fault, stray_fault, turn_fault, use_fault, walk_fault, word_fault}
 use Rattle.clap.specs.declared.builder.action.ArgAction.{ArgAction}
 use Rattle.clap.specs.declared.builder.action.ArgAction.TheVariants as action
@@ -26,9 +26,10 @@ use Rattle.clap.proofs.SimpleLemmas.{is_nil}
 use Rattle.clap.proofs.WalkLemmas.{both}
 use Rattle.bx_words.specs.declared.verbs.File.{File}
 use Rattle.bx_words.specs.declared.verbs.Verb.{Verb}
-use Rattle.bx_words.specs.declared.verbs.Verb.TheVariants.{Design}
+use Rattle.bx_words.specs.declared.verbs.Verb.TheVariants.{Design, Verify, Extract, Sample}
+use Rattle.bx_words.specs.Options.{option_name}
 use Rattle.bx_words.specs.Verbs.{Line, Text, file_name, files_of, line_of}
-use Rattle.bx_words.specs.Clap.{app_of_line, file_rule, has_matches, named_in, option_rule, rows, rules_of}
+use Rattle.bx_words.specs.Clap.{app_of_line, file_rule, given_in, has_matches, named_in, number_rule, option_rule, rows, rules_of}
 
 -- ---- rows with values
 
@@ -344,24 +345,29 @@ given : (b : Bool) → not b ≡ false → b ≡ true
 given true e = refl
 given false e = absurd (true≢false e)
 
-each_given : (found : List Row) (files : List File) → list_any (is_missed found) (map file_rule files) ≡ false
-    → All (λ file. is_given (file_name file) found ≡ true) files
-each_given found [] e = All-nil (λ (file : File). is_given (file_name file) found ≡ true)
-each_given found (file ∷ files) e =
-    let n = neither (is_missed found (file_rule file)) (list_any (is_missed found) (map file_rule files)) e in
-    All-cons (λ (f : File). is_given (file_name f) found ≡ true) file files (given (is_given (file_name file) found) n.0) (each_given found files n.1)
+-- a positional that has to be there
+abbrev required_rule : Text → Rule
+required_rule id = record (new_rule id) { required = true; action = Some action.Set }
 
-has_name : (found : List Row) → Valued found → (file : File) → is_given (file_name file) found ≡ true → IsSome (named_in found file)
-has_name found v file e = go (find (λ r. bytes_eq r.id (file_name file)) found) refl e
+each_given : {X : Type 0} (rule : X → Rule) (id : X → Text) → ((x : X) → rule x ≡ required_rule (id x)) → (found : List Row) (xs : List X)
+    → list_any (is_missed found) (map rule xs) ≡ false → All (λ x. is_given (id x) found ≡ true) xs
+each_given rule id same found [] e = All-nil (λ x. is_given (id x) found ≡ true)
+each_given rule id same found (x ∷ xs) e =
+    let n = neither (is_missed found (rule x)) (list_any (is_missed found) (map rule xs)) e in
+    let here : not (is_given (id x) found) ≡ false = ap (is_missed found) (sym (same x)) ∙ n.0 in
+    All-cons (λ y. is_given (id y) found ≡ true) x xs (given (is_given (id x) found) here) (each_given rule id same found xs n.1)
+
+has_text : (found : List Row) → Valued found → (id : Text) → is_given id found ≡ true → IsSome (first_of id found)
+has_text found v id e = go (find (λ r. bytes_eq r.id id) found) refl e
   where
     some_first : (values : List Text) → has_some values ≡ true → IsSome (slice_get values 0)
     some_first [] some = absurd (true≢false (sym some))
     some_first (x ∷ xs) some = refl
 
-    go : (row : Option Row) → find (λ r. bytes_eq r.id (file_name file)) found ≡ row → option_map_or (λ r. explicit_source r.source) row false ≡ true
+    go : (row : Option Row) → find (λ r. bytes_eq r.id id) found ≡ row → option_map_or (λ r. explicit_source r.source) row false ≡ true
         → IsSome (option_and_then (λ r. slice_get r.values 0) row)
     go None is explicit = absurd (true≢false (sym explicit))
-    go (Some r) is explicit = some_first r.values (found_passes (λ r. bytes_eq r.id (file_name file)) has_values found r v is)
+    go (Some r) is explicit = some_first r.values (found_passes (λ r. bytes_eq r.id id) has_values found r v is)
 
 module _ (line : Line) (each : list_all takes_one (built (app_of_line line)).top.rules ≡ true) (words : List Text)
     (none : fault_of (app_of_line line) words ≡ []) where
@@ -397,17 +403,48 @@ module _ (line : Line) (each : list_all takes_one (built (app_of_line line)).top
       second_none (defaults_fault (settled top.rules end).rows top.rules) (check_fault top found_rows false)
       (second_none (settle_fault top.rules top.args_override_self end) _ at_end)
 
+  abbrev file_rules : List Rule
+  file_rules = map file_rule (files_of line)
+
+  abbrev number_rules : List Rule
+  number_rules = map number_rule line.numbers
+
+  abbrev option_rules : List Rule
+  option_rules = map option_rule line.options
+
+  none_of_files : list_any (is_missed found_rows) file_rules ≡ false
+  none_of_files =
+      (neither (list_any (is_missed found_rows) file_rules) (list_any (is_missed found_rows) (number_rules ++ option_rules))
+      (sym (list_any-append (is_missed found_rows) file_rules (number_rules ++ option_rules)) ∙ sym (filled_same found_rows (rules_of line) 1) ∙ none_missed top found_rows checked)).0
+
+  none_of_numbers : list_any (is_missed found_rows) number_rules ≡ false
+  none_of_numbers =
+      (neither (list_any (is_missed found_rows) number_rules) (list_any (is_missed found_rows) option_rules)
+      (sym (list_any-append (is_missed found_rows) number_rules option_rules)
+      ∙ (neither (list_any (is_missed found_rows) file_rules) (list_any (is_missed found_rows) (number_rules ++ option_rules))
+      (sym (list_any-append (is_missed found_rows) file_rules (number_rules ++ option_rules)) ∙ sym (filled_same found_rows (rules_of line) 1) ∙ none_missed top found_rows checked)).1)).0
+
   pub all_named : All (λ file. IsSome (named_in (matches_of (app_of_line line) words) file)) (files_of line)
   all_named k d lt =
-      let split = list_any-append (is_missed found_rows) (map file_rule (files_of line)) (map option_rule line.options) in
-      let files = neither (list_any (is_missed found_rows) (map file_rule (files_of line))) (list_any (is_missed found_rows) (map option_rule line.options)) (sym split ∙ sym (filled_same found_rows (rules_of line) 1) ∙ none_missed top found_rows checked) in
-      has_name found_rows valued_found (slice_index_or (files_of line) k d) (each_given found_rows (files_of line) files.0 k d lt)
+      has_text found_rows valued_found (file_name (slice_index_or (files_of line) k d)) (each_given file_rule file_name (λ file. refl) found_rows (files_of line) none_of_files k d lt)
+
+  pub all_numbered : All (λ number. IsSome (given_in (matches_of (app_of_line line) words) number)) line.numbers
+  all_numbered k d lt =
+      has_text found_rows valued_found (option_name (slice_index_or line.numbers k d)) (each_given number_rule option_name (λ number. refl) found_rows line.numbers none_of_numbers k d lt)
 
 one_each : (verb : Verb) → list_all takes_one (built (app_of_line (line_of verb))).top.rules ≡ true
 unfolding clap_on_literals
 one_each Design = refl
+one_each Verify = refl
+one_each Extract = refl
+one_each Sample = refl
 
 -- each file of a command has a name, where `clap` takes the words
 pub named : (verb : Verb) (words : List Text) → has_matches verb words ≡ true → All (λ file. IsSome (named_in (rows verb words) file)) (files_of (line_of verb))
 unfolding has_matches rows
 named verb words has = all_named (line_of verb) (one_each verb) words (is_nil (fault_of (app_of_line (line_of verb)) words) has)
+
+-- and each number that is always given has a text
+pub numbered : (verb : Verb) (words : List Text) → has_matches verb words ≡ true → All (λ number. IsSome (given_in (rows verb words) number)) (line_of verb).numbers
+unfolding has_matches rows
+numbered verb words has = all_numbered (line_of verb) (one_each verb) words (is_nil (fault_of (app_of_line (line_of verb)) words) has)

@@ -6,16 +6,16 @@ use Rattle.std.specs.Option.{option_map_or}
 use Rattle.clap.specs.Walk.{Row}
 use Rattle.bx_grid.specs.declared.ratio.Limits.{Limits}
 use Rattle.bx_words.specs.declared.opts.Opt.{Opt}
-use Rattle.bx_words.specs.declared.opts.Opt.TheVariants.{Area, Width, Height, Budget, Workers}
+use Rattle.bx_words.specs.declared.opts.Opt.TheVariants.{Area, Width, Height, Budget, Workers, Number as SampleNumber, Gates, Extra}
 use Rattle.bx_words.specs.declared.verbs.File.{File}
 use Rattle.bx_words.specs.declared.verbs.File.TheVariants as file
 use Rattle.bx_words.specs.declared.verbs.Verb.{Verb}
-use Rattle.bx_words.specs.declared.verbs.Verb.TheVariants.{Design}
+use Rattle.bx_words.specs.declared.verbs.Verb.TheVariants.{Design, Verify, Extract, Sample}
 use Rattle.bx_words.specs.declared.faults.WordFault.TheVariants.{Number, Range, Same}
 use Rattle.bx_words.specs.declared.commands.Command.{Command}
 use Rattle.bx_words.specs.declared.commands.Command.TheVariants as command
 use Rattle.bx_words.specs.Options.{default_of}
-use Rattle.bx_words.specs.Verbs.{Text, line_of, verb_of}
+use Rattle.bx_words.specs.Verbs.{Text, line_of, opts_of, verb_of}
 use Rattle.bx_words.specs.Clap.{rows, given_in, named_in}
 use Rattle.bx_words.specs.Names.{have_one_name, is_same, is_written_over}
 use Rattle.bx_words.specs.Numbers.{Given, IsTaken, is_no_number, is_number, is_out_of_range, is_in_range, number_of, first_no_number, first_out_of_range}
@@ -83,6 +83,9 @@ module _ (g h : Given) (options : (o : Opt) → o ≢ Workers → g o ≡ h o) w
     test_same test e f Height = ap (λ t. test t Height) (options Height (λ e. cc))
     test_same test e f Budget = ap (λ t. test t Budget) (options Budget (λ e. cc))
     test_same test e f Workers = e ∙ sym f
+    test_same test e f SampleNumber = ap (λ t. test t SampleNumber) (options SampleNumber (λ e. cc))
+    test_same test e f Gates = ap (λ t. test t Gates) (options Gates (λ e. cc))
+    test_same test e f Extra = ap (λ t. test t Extra) (options Extra (λ e. cc))
 
     first_no_number_same : (xs : List Opt) → first_no_number xs g ≡ first_no_number xs h
     first_no_number_same =
@@ -111,6 +114,9 @@ module _ (one other : List Text) (d : DifferInWorkers one other) where
   found_too = rows d.verb other
 
   own_same : (verb : Verb) → own_fault verb found ≡ own_fault verb found_too
+  own_same Verify = refl
+  own_same Extract = refl
+  own_same Sample = refl
   own_same Design = ap work_fault (work_same (given_in found) (given_in found_too) d.options)
 
   same_same : (verb : Verb) → same_fault verb found ≡ same_fault verb found_too
@@ -120,9 +126,9 @@ module _ (one other : List Text) (d : DifferInWorkers one other) where
   found_same : found_fault d.verb found ≡ found_fault d.verb found_too
   found_same =
       ap (λ f. or_next f (or_next (same_fault d.verb found) (own_fault d.verb found)))
-      (option_fault_same (given_in found) (given_in found_too) d.options d.one_is_taken d.other_is_taken (line_of d.verb).options)
-      ∙ ap (λ f. or_next (option_fault (line_of d.verb).options (given_in found_too)) (or_next f (own_fault d.verb found))) (same_same d.verb)
-      ∙ ap (λ f. or_next (option_fault (line_of d.verb).options (given_in found_too)) (or_next (same_fault d.verb found_too) f)) (own_same d.verb)
+      (option_fault_same (given_in found) (given_in found_too) d.options d.one_is_taken d.other_is_taken (opts_of (line_of d.verb)))
+      ∙ ap (λ f. or_next (option_fault (opts_of (line_of d.verb)) (given_in found_too)) (or_next f (own_fault d.verb found))) (same_same d.verb)
+      ∙ ap (λ f. or_next (option_fault (opts_of (line_of d.verb)) (given_in found_too)) (or_next (same_fault d.verb found_too) f)) (own_same d.verb)
 
   pub faults : first_fault one ≡ first_fault other
   faults = read_fault one d.verb d.one_is_read ∙ found_same ∙ sym (read_fault other d.verb d.other_is_read)
@@ -130,20 +136,68 @@ module _ (one other : List Text) (d : DifferInWorkers one other) where
   some_once : (o p : Option Text) (x y : Text) → o ≡ p → o ≡ Some x → p ≡ Some y → x ≡ y
   some_once o p x y same e f = let both : Some x ≡ Some y = sym e ∙ same ∙ f in cc
 
+  -- both name the same files and the same numbers but that of workers, whatever the command is
+  name_same : (verb : Verb) → verb ≡ d.verb → (f : File) (x y : Text) → named_in (rows verb one) f ≡ Some x
+      → named_in (rows verb other) f ≡ Some y → x ≡ y
+  name_same verb is f x y a b =
+      some_once (named_in (rows verb one) f) (named_in (rows verb other) f) x y
+      (subst (λ (v : Verb). named_in (rows v one) f ≡ named_in (rows v other) f) (sym is) (d.files f)) a b
+
+  given_same : (verb : Verb) → verb ≡ d.verb → (o : Opt) → o ≢ Workers → given_in (rows verb one) o ≡ given_in (rows verb other) o
+  given_same verb is o not_workers =
+      subst (λ (v : Verb). given_in (rows v one) o ≡ given_in (rows v other) o) (sym is) (d.options o not_workers)
+
   ask_for_one : (verb : Verb) → verb ≡ d.verb → (c e : Command) → IsCommandOf verb (rows verb one) c → IsCommandOf verb (rows verb other) e → AskForOne c e
   ask_for_one Design is (command.Design c) (command.Design e) a b = record {
-    net = some_once (named_in (rows Design one) file.Net) (named_in (rows Design other) file.Net) c.net.now e.net.now (names file.Net) a.net b.net;
-    lib = some_once (named_in (rows Design one) file.Lib) (named_in (rows Design other) file.Lib) c.lib.now e.lib.now (names file.Lib) a.lib b.lib;
-    design = some_once (named_in (rows Design one) file.Design) (named_in (rows Design other) file.Design) c.design.now e.design.now (names file.Design) a.design b.design;
-    cert = some_once (named_in (rows Design one) file.Cert) (named_in (rows Design other) file.Cert) c.cert.now e.cert.now (names file.Cert) a.cert b.cert;
-    limits = a.limits ∙ limits_same (given_in (rows Design one)) (given_in (rows Design other)) others ∙ sym b.limits;
-    budget = a.budget ∙ budget_same (given_in (rows Design one)) (given_in (rows Design other)) others ∙ sym b.budget;
-  } where
-    names : (f : File) → named_in (rows Design one) f ≡ named_in (rows Design other) f
-    names f = subst (λ (v : Verb). named_in (rows v one) f ≡ named_in (rows v other) f) (sym is) (d.files f)
-
-    others : (o : Opt) → o ≢ Workers → given_in (rows Design one) o ≡ given_in (rows Design other) o
-    others o not_workers = subst (λ (v : Verb). given_in (rows v one) o ≡ given_in (rows v other) o) (sym is) (d.options o not_workers)
+    net = name_same Design is file.Net c.net.now e.net.now a.net b.net;
+    lib = name_same Design is file.Lib c.lib.now e.lib.now a.lib b.lib;
+    design = name_same Design is file.Design c.design.now e.design.now a.design b.design;
+    cert = name_same Design is file.Cert c.cert.now e.cert.now a.cert b.cert;
+    limits = a.limits ∙ limits_same (given_in (rows Design one)) (given_in (rows Design other)) (given_same Design is) ∙ sym b.limits;
+    budget = a.budget ∙ budget_same (given_in (rows Design one)) (given_in (rows Design other)) (given_same Design is) ∙ sym b.budget;
+  }
+  ask_for_one Verify is (command.Verify c) (command.Verify e) a b = record {
+    net = name_same Verify is file.Net c.net.now e.net.now a.net b.net;
+    lib = name_same Verify is file.Lib c.lib.now e.lib.now a.lib b.lib;
+    design = name_same Verify is file.Design c.design.now e.design.now a.design b.design;
+    cert = name_same Verify is file.Cert c.cert.now e.cert.now a.cert b.cert;
+  }
+  ask_for_one Extract is (command.Extract c) (command.Extract e) a b = record {
+    lib = name_same Extract is file.Lib c.lib.now e.lib.now a.lib b.lib;
+    design = name_same Extract is file.Design c.design.now e.design.now a.design b.design;
+  }
+  ask_for_one Sample is (command.Sample c) (command.Sample e) a b =
+      let values = λ (o : Opt) (other_option : o ≢ Workers).
+      value_same (given_in (rows Sample one)) (given_in (rows Sample other)) (given_same Sample is) 0 o other_option in
+      record {
+        number = a.number ∙ values SampleNumber (λ e. cc) ∙ sym b.number;
+        gates = a.gates ∙ values Gates (λ e. cc) ∙ sym b.gates;
+        extra = a.extra ∙ values Extra (λ e. cc) ∙ sym b.extra;
+      }
+  ask_for_one Design is (command.Verify c) e a b = absurd a
+  ask_for_one Design is (command.Extract c) e a b = absurd a
+  ask_for_one Design is (command.Sample c) e a b = absurd a
+  ask_for_one Design is (command.Design c) (command.Verify e) a b = absurd b
+  ask_for_one Design is (command.Design c) (command.Extract e) a b = absurd b
+  ask_for_one Design is (command.Design c) (command.Sample e) a b = absurd b
+  ask_for_one Verify is (command.Design c) e a b = absurd a
+  ask_for_one Verify is (command.Extract c) e a b = absurd a
+  ask_for_one Verify is (command.Sample c) e a b = absurd a
+  ask_for_one Verify is (command.Verify c) (command.Design e) a b = absurd b
+  ask_for_one Verify is (command.Verify c) (command.Extract e) a b = absurd b
+  ask_for_one Verify is (command.Verify c) (command.Sample e) a b = absurd b
+  ask_for_one Extract is (command.Design c) e a b = absurd a
+  ask_for_one Extract is (command.Verify c) e a b = absurd a
+  ask_for_one Extract is (command.Sample c) e a b = absurd a
+  ask_for_one Extract is (command.Extract c) (command.Design e) a b = absurd b
+  ask_for_one Extract is (command.Extract c) (command.Verify e) a b = absurd b
+  ask_for_one Extract is (command.Extract c) (command.Sample e) a b = absurd b
+  ask_for_one Sample is (command.Design c) e a b = absurd a
+  ask_for_one Sample is (command.Verify c) e a b = absurd a
+  ask_for_one Sample is (command.Extract c) e a b = absurd a
+  ask_for_one Sample is (command.Sample c) (command.Design e) a b = absurd b
+  ask_for_one Sample is (command.Sample c) (command.Verify e) a b = absurd b
+  ask_for_one Sample is (command.Sample c) (command.Extract e) a b = absurd b
 
   pub commands : (c e : Command) → IsCommand one c → IsCommand other e → AskForOne c e
   commands c e a b =

@@ -1,7 +1,7 @@
 -- Numbers as the words give them.
 use Rattle.std.specs.Prelude.{◌≡◌, ℕ, ◌&&◌, Bool, false, not, List, length, nat_lt, nat_le, Option, find}
 use Rattle.std.specs.Option.{option_map_or}
-use Rattle.std.specs.List.{list_all}
+use Rattle.std.specs.List.{Contains, list_all}
 use Rattle.std.specs.Char.{is_ascii_digit}
 use Rattle.std.specs.Str.Parse.{digits_value}
 use Rattle.bx_words.specs.declared.opts.Opt.{Opt}
@@ -44,5 +44,6 @@ first_out_of_range options given = find (is_out_of_range given) options
 abbrev pub IsTaken : Given → Opt → Type 0
 IsTaken given option = (is_no_number given option ≡ false) × (is_out_of_range given option ≡ false)
 
-abbrev pub AreTaken : Given → Type 0
-AreTaken given = (option : Opt) → IsTaken given option
+-- so it is with each of these
+abbrev pub AreTaken : List Opt → Given → Type 0
+AreTaken options given = (option : Opt) → Contains options option → IsTaken given option

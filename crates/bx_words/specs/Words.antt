@@ -5,19 +5,22 @@ use Rattle.clap.specs.Walk.{Row}
 use Rattle.bx_grid.specs.declared.ratio.Limits.{Limits}
 use Rattle.bx_grid.specs.Orders.{order}
 use Rattle.bx_words.specs.declared.opts.Opt.{Opt}
-use Rattle.bx_words.specs.declared.opts.Opt.TheVariants.{Area, Width, Height, Budget, Workers}
+use Rattle.bx_words.specs.declared.opts.Opt.TheVariants.{Area, Width, Height, Budget, Workers, Number as SampleNumber, Gates, Extra}
 use Rattle.bx_words.specs.declared.verbs.File.TheVariants.{Net, Lib, Design as DesignFile, Cert}
 use Rattle.bx_words.specs.declared.verbs.Verb.{Verb}
-use Rattle.bx_words.specs.declared.verbs.Verb.TheVariants.{Design}
+use Rattle.bx_words.specs.declared.verbs.Verb.TheVariants.{Design, Verify, Extract, Sample}
 use Rattle.bx_words.specs.declared.faults.WordFault.{WordFault}
 use Rattle.bx_words.specs.declared.faults.WordFault.TheVariants.{Command as NoVerb, Usage, Number, Range, Same, Work}
 use Rattle.bx_words.specs.declared.faults.NoCommand.{NoCommand}
 use Rattle.bx_words.specs.declared.faults.NoCommand.TheVariants.{Fault, NoMemory}
 use Rattle.bx_words.specs.declared.commands.DesignCommand.{DesignCommand}
+use Rattle.bx_words.specs.declared.commands.VerifyCommand.{VerifyCommand}
+use Rattle.bx_words.specs.declared.commands.ExtractCommand.{ExtractCommand}
+use Rattle.bx_words.specs.declared.commands.SampleCommand.{SampleCommand}
 use Rattle.bx_words.specs.declared.commands.Command.{Command}
-use Rattle.bx_words.specs.declared.commands.Command.TheVariants.{Design as DesignOf}
+use Rattle.bx_words.specs.declared.commands.Command.TheVariants.{Design as DesignOf, Verify as VerifyOf, Extract as ExtractOf, Sample as SampleOf}
 use Rattle.bx_words.specs.Options.{default_of, most_work}
-use Rattle.bx_words.specs.Verbs.{Text, line_of, verb_of}
+use Rattle.bx_words.specs.Verbs.{Text, line_of, opts_of, verb_of}
 use Rattle.bx_words.specs.Clap.{has_matches, rows, given_in, named_in}
 use Rattle.bx_words.specs.Names.{is_written_over}
 use Rattle.bx_words.specs.Numbers.{Given, number_of, first_no_number, first_out_of_range}
@@ -69,10 +72,13 @@ work_fault work = if nat_lt most_work work then Some (Work work) else None
 -- what is wrong with a command whose options are numbers in their ranges and whose files are apart
 abbrev pub own_fault : Verb → List Row → Option WordFault
 own_fault Design found = work_fault (work_of (limits_of (given_in found)) (budget_of (given_in found)))
+own_fault Verify found = None
+own_fault Extract found = None
+own_fault Sample found = None
 
 abbrev pub found_fault : Verb → List Row → Option WordFault
 found_fault verb found =
-    or_next (option_fault (line_of verb).options (given_in found)) (or_next (same_fault verb found) (own_fault verb found))
+    or_next (option_fault (opts_of (line_of verb)) (given_in found)) (or_next (same_fault verb found) (own_fault verb found))
 
 abbrev pub verb_fault : List Text → Verb → Option WordFault
 verb_fault words verb = if has_matches verb words then found_fault verb (rows verb words) else Some Usage
@@ -93,9 +99,32 @@ pub record IsDesign (found : List Row) (d : DesignCommand) : Type 0 where
   pub budget : d.budget ≡ budget_of (given_in found)
   pub workers : d.workers ≡ workers_of (given_in found)
 
+-- `verify`, likewise
+pub record IsVerify (found : List Row) (v : VerifyCommand) : Type 0 where
+  pub net : named_in found Net ≡ Some v.net.now
+  pub lib : named_in found Lib ≡ Some v.lib.now
+  pub design : named_in found DesignFile ≡ Some v.design.now
+  pub cert : named_in found Cert ≡ Some v.cert.now
+  pub workers : v.workers ≡ value_at 0 (given_in found) Workers
+
+-- `extract`, likewise
+pub record IsExtract (found : List Row) (e : ExtractCommand) : Type 0 where
+  pub lib : named_in found Lib ≡ Some e.lib.now
+  pub design : named_in found DesignFile ≡ Some e.design.now
+
+-- `sample`, likewise
+pub record IsSample (found : List Row) (s : SampleCommand) : Type 0 where
+  pub number : s.number ≡ value_at 0 (given_in found) SampleNumber
+  pub gates : s.gates ≡ value_at 0 (given_in found) Gates
+  pub extra : s.extra ≡ value_at 0 (given_in found) Extra
+
 -- a command, with what is found in its words
 abbrev pub IsCommandOf : Verb → List Row → Command → Type 0
 IsCommandOf Design found (DesignOf d) = IsDesign found d
+IsCommandOf Verify found (VerifyOf v) = IsVerify found v
+IsCommandOf Extract found (ExtractOf e) = IsExtract found e
+IsCommandOf Sample found (SampleOf s) = IsSample found s
+IsCommandOf _ found _ = ⊥
 
 -- the words say this command
 pub record IsCommand (words : List Text) (c : Command) : Type 0 where

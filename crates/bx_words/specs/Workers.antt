@@ -5,8 +5,11 @@ use Rattle.bx_words.specs.declared.opts.Opt.TheVariants.{Workers}
 use Rattle.bx_words.specs.declared.verbs.File.{File}
 use Rattle.bx_words.specs.declared.verbs.Verb.{Verb}
 use Rattle.bx_words.specs.declared.commands.DesignCommand.{DesignCommand}
+use Rattle.bx_words.specs.declared.commands.VerifyCommand.{VerifyCommand}
+use Rattle.bx_words.specs.declared.commands.ExtractCommand.{ExtractCommand}
+use Rattle.bx_words.specs.declared.commands.SampleCommand.{SampleCommand}
 use Rattle.bx_words.specs.declared.commands.Command.{Command}
-use Rattle.bx_words.specs.declared.commands.Command.TheVariants.{Design}
+use Rattle.bx_words.specs.declared.commands.Command.TheVariants.{Design, Verify, Extract, Sample}
 use Rattle.bx_words.specs.Verbs.{Text}
 use Rattle.bx_words.specs.Clap.{rows, given_in, named_in}
 use Rattle.bx_words.specs.Numbers.{IsTaken}
@@ -32,5 +35,24 @@ pub record AreOneDesign (c d : DesignCommand) : Type 0 where
   pub limits : c.limits ≡ d.limits
   pub budget : c.budget ≡ d.budget
 
+pub record AreOneVerify (c d : VerifyCommand) : Type 0 where
+  pub net : c.net.now ≡ d.net.now
+  pub lib : c.lib.now ≡ d.lib.now
+  pub design : c.design.now ≡ d.design.now
+  pub cert : c.cert.now ≡ d.cert.now
+
+pub record AreOneExtract (c d : ExtractCommand) : Type 0 where
+  pub lib : c.lib.now ≡ d.lib.now
+  pub design : c.design.now ≡ d.design.now
+
+pub record AreOneSample (c d : SampleCommand) : Type 0 where
+  pub number : c.number ≡ d.number
+  pub gates : c.gates ≡ d.gates
+  pub extra : c.extra ≡ d.extra
+
 abbrev pub AskForOne : Command → Command → Type 0
 AskForOne (Design c) (Design d) = AreOneDesign c d
+AskForOne (Verify c) (Verify d) = AreOneVerify c d
+AskForOne (Extract c) (Extract d) = AreOneExtract c d
+AskForOne (Sample c) (Sample d) = AreOneSample c d
+AskForOne _ _ = ⊥

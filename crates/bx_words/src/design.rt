@@ -3,7 +3,7 @@ ghost use Rattle.std.specs.Prelude.{◌≡◌, ◌≤◌, false, None, Some, IfO
 ghost use Rattle.bx_grid.specs.Orders.{AreLimits};
 ghost use Rattle.bx_words.specs.Clap.{given_in, named_in, rows_in};
 ghost use Rattle.bx_words.specs.Numbers.{AreTaken};
-ghost use Rattle.bx_words.specs.Verbs.{files_of, line_of};
+ghost use Rattle.bx_words.specs.Verbs.{files_of, line_of, opts_of};
 ghost use Rattle.bx_words.specs.Names.{is_written_over};
 ghost use Rattle.bx_words.specs.Words.{limits_of, budget_of, work_of as work_for, own_fault, IsDesign};
 
@@ -21,7 +21,7 @@ use clap::ArgMatches;
 pub(crate) fn read_design<'w>(matches: &ArgMatches<'w>) -> Result<DesignCommand<'w>, WordFault>
     requires named { All (λ file. IsSome (named_in (rows_in matches.now) file))
         (files_of (line_of Verb.Design)) }
-    requires numbers { AreTaken (given_in (rows_in matches.now)) }
+    requires numbers { AreTaken (opts_of (line_of Verb.Design)) (given_in (rows_in matches.now)) }
     requires apart { is_written_over (rows_in matches.now)
         (line_of Verb.Design).read (line_of Verb.Design).written ≡ false }
     ensures sound { OnOk result (own_fault Verb.Design (rows_in matches.now) ≡ None) }
@@ -54,7 +54,7 @@ pub(crate) fn read_design<'w>(matches: &ArgMatches<'w>) -> Result<DesignCommand<
 
 // The limits, given or by default.
 fn limits(matches: &ArgMatches<'_>) -> Limits
-    requires { AreTaken (given_in (rows_in matches.now)) }
+    requires { AreTaken (opts_of (line_of Verb.Design)) (given_in (rows_in matches.now)) }
     ensures value { result ≡ limits_of (given_in (rows_in matches.now)) }
     ensures range { AreLimits result }
 {

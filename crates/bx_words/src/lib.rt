@@ -12,11 +12,12 @@ mod limits;
 mod names;
 mod numbers;
 mod opts;
+mod others;
 mod parse;
 mod read;
 mod verbs;
 
-pub use commands::{Command, DesignCommand};
+pub use commands::{Command, DesignCommand, ExtractCommand, SampleCommand, VerifyCommand};
 pub use faults::{NoCommand, WordFault};
 pub use limits::{MOST_BUDGET, MOST_WORK, MOST_WORKERS};
 pub use opts::Opt;

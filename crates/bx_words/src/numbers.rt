@@ -6,7 +6,7 @@ ghost use Rattle.std.specs.List.{list_all};
 ghost use Rattle.std.specs.Char.{is_ascii_digit};
 ghost use Rattle.bx_words.specs.Options.{least_of, most_of};
 ghost use Rattle.bx_words.specs.Clap.{given_in, rows_in};
-ghost use Rattle.bx_words.specs.Numbers.{is_number, number_of, is_in_range, is_no_number, is_out_of_range, AreTaken, first_no_number as no_number_of, first_out_of_range as out_of_range_of};
+ghost use Rattle.bx_words.specs.Numbers.{is_number, number_of, is_in_range, is_no_number, is_out_of_range, IsTaken, first_no_number as no_number_of, first_out_of_range as out_of_range_of};
 ghost use Rattle.bx_words.specs.Words.{option_fault as fault_of_options, value_at as value_of};
 
 use crate::faults::WordFault;
@@ -87,7 +87,7 @@ fn takes(option: Opt, n: u64) -> bool
 
 // What an option is at this area: the number that is given for it, or its default.
 pub(crate) fn value_at(area: u64, matches: &ArgMatches<'_>, option: Opt) -> u64
-    requires { AreTaken (given_in (rows_in matches.now)) }
+    requires { IsTaken (given_in (rows_in matches.now)) option }
     ensures value { result ≡ value_of area (given_in (rows_in matches.now)) option }
     ensures least { least_of option ≤ result }
     ensures most { result ≤ most_of option }

@@ -5,7 +5,7 @@ ghost use Rattle.clap.specs.Walk.{rule_of};
 ghost use Rattle.clap.specs.Values.{kind_of};
 ghost use Rattle.clap.specs.declared.error.kind.ErrorKind.TheVariants.{OutOfMemory};
 ghost use Rattle.bx_words.specs.Verbs.{texts, files_of, line_of};
-ghost use Rattle.bx_words.specs.Clap.{file_rule, option_rule, rules_of, has_matches, given_in, named_in, rows_in, HasFound};
+ghost use Rattle.bx_words.specs.Clap.{file_rule, number_rule, option_rule, rules_of, has_matches, given_in, named_in, rows_in, HasFound};
 ghost use Rattle.bx_words.specs.Built.{IsBuilt};
 ghost use Rattle.bx_words.specs.Refusals.{IsRefusal};
 
@@ -56,13 +56,24 @@ fn command_of<'w>(alloc: Global, verb: Verb) -> Result<clap::Command<'w>, AllocE
         .args(args)
 }
 
-// Its arguments: the files, and then the options.
+// Its arguments: the files, the numbers, and then the options.
 fn arguments<'w>(alloc: Global, verb: Verb) -> Result<Vec<Arg<'w>>, AllocError>
     ensures { IfOk result (λ args. map rule_of args.items ≡ rules_of (line_of verb)) }
 {
-    let mut args = file_arguments(alloc, verb)?;
+    let mut args = positional_arguments(alloc, verb)?;
     for option in verb.options() {
         args.push(option_argument(alloc, *option))?;
+    }
+    Ok(args)
+}
+
+fn positional_arguments<'w>(alloc: Global, verb: Verb) -> Result<Vec<Arg<'w>>, AllocError>
+    ensures { IfOk result (λ args. map rule_of args.items
+        ≡ map file_rule (files_of (line_of verb)) ++ map number_rule (line_of verb).numbers) }
+{
+    let mut args = file_arguments(alloc, verb)?;
+    for number in verb.numbers() {
+        args.push(number_argument(alloc, *number))?;
     }
     Ok(args)
 }
@@ -95,6 +106,13 @@ fn file_argument<'w>(alloc: Global, file: File) -> Arg<'w>
     Arg::new(alloc, name).required(true).action(ArgAction::Set)
 }
 
+fn number_argument<'w>(alloc: Global, number: Opt) -> Arg<'w>
+    ensures { rule_of result ≡ number_rule number }
+{
+    let name: &'w str = number.name();
+    Arg::new(alloc, name).required(true).action(ArgAction::Set)
+}
+
 fn option_argument<'w>(alloc: Global, option: Opt) -> Arg<'w>
     ensures { rule_of result ≡ option_rule option }
 {
@@ -102,7 +120,7 @@ fn option_argument<'w>(alloc: Global, option: Opt) -> Arg<'w>
     Arg::new(alloc, name).long(name).action(ArgAction::Set)
 }
 
-// The text that is given for an option.
+// The text that is given for a number.
 pub(crate) fn given<'w>(matches: &ArgMatches<'w>, option: Opt) -> Option<&'w str>
     ensures { option_map (λ text. text.now) result ≡ given_in (rows_in matches.now) option }
 {

@@ -1,15 +1,16 @@
 //! The one call: from the words to the command that they say, or to the first thing that is wrong with them.
 ghost use Rattle.std.specs.Prelude.{◌≡◌, ◌≢◌, None, Some, Err, IfOk, IfErr, OnOk, IsOk, IsSome, All};
 ghost use Rattle.bx_words.specs.declared.faults.WordFault.{WordFault as Wrong};
-ghost use Rattle.bx_words.specs.Verbs.{texts, files_of, line_of};
-ghost use Rattle.bx_words.specs.Clap.{named_in, rows_in};
-ghost use Rattle.bx_words.specs.Words.{first_fault, found_fault, IsCommand, IsCommandOf, IsAnswer};
+ghost use Rattle.bx_words.specs.Verbs.{texts, files_of, line_of, opts_of};
+ghost use Rattle.bx_words.specs.Clap.{given_in, named_in, rows_in};
+ghost use Rattle.bx_words.specs.Words.{first_fault, found_fault, option_fault as option_fault_of, IsCommand, IsCommandOf, IsAnswer};
 
 use crate::commands::Command;
 use crate::design::read_design;
 use crate::faults::{NoCommand, WordFault};
 use crate::names::writes_over;
 use crate::numbers::option_fault;
+use crate::others::{read_extract, read_sample, read_verify};
 use crate::parse::find_matches;
 use crate::verbs::{Verb, find_verb};
 use clap::ArgMatches;
@@ -53,13 +54,15 @@ fn answer<'w>(alloc: Global, words: &'w [String]) -> Result<Command<'w>, NoComma
 
 // The command of what was found in its words, or what is first wrong with it.
 fn command<'w>(verb: Verb, matches: &ArgMatches<'w>) -> Result<Command<'w>, WordFault>
-    requires { All (λ file. IsSome (named_in (rows_in matches.now) file))
+    requires named { All (λ file. IsSome (named_in (rows_in matches.now) file))
         (files_of (line_of verb)) }
+    requires numbered { All (λ number. IsSome (given_in (rows_in matches.now) number))
+        (line_of verb).numbers }
     ensures sound { OnOk result (found_fault verb (rows_in matches.now) ≡ None) }
     ensures command { IfOk result (IsCommandOf verb (rows_in matches.now)) }
     ensures fault { IfErr result (λ fault. found_fault verb (rows_in matches.now) ≡ Some fault) }
 {
-    if let Some(fault) = option_fault(verb.options(), matches) {
+    if let Some(fault) = number_fault(verb, matches) {
         return Err(fault);
     }
     if writes_over(matches, verb.read(), verb.written()) {
@@ -70,5 +73,18 @@ fn command<'w>(verb: Verb, matches: &ArgMatches<'w>) -> Result<Command<'w>, Word
             Ok(design) => Ok(Command::Design(design)),
             Err(fault) => Err(fault),
         },
+        Verb::Verify => Ok(Command::Verify(read_verify(matches))),
+        Verb::Extract => Ok(Command::Extract(read_extract(matches))),
+        Verb::Sample => Ok(Command::Sample(read_sample(matches))),
+    }
+}
+
+// The first fault of a command's numbers. No command has both some that are always given and options.
+fn number_fault(verb: Verb, matches: &ArgMatches<'_>) -> Option<WordFault>
+    ensures { result ≡ option_fault_of (opts_of (line_of verb)) (given_in (rows_in matches.now)) }
+{
+    match verb {
+        Verb::Sample => option_fault(verb.numbers(), matches),
+        Verb::Design | Verb::Verify | Verb::Extract => option_fault(verb.options(), matches),
     }
 }

@@ -4,10 +4,10 @@ use Rattle.clap.specs.Simple.{app_of}
 use Rattle.clap.specs.Values.{kind_of}
 use Rattle.bx_words.specs.declared.faults.NoCommand.{NoCommand}
 use Rattle.bx_words.specs.Verbs.{files_of, line_of, texts}
-use Rattle.bx_words.specs.Clap.{has_matches, named_in}
+use Rattle.bx_words.specs.Clap.{given_in, has_matches, named_in}
 use Rattle.bx_words.specs.Refusals.{IsRefusal}
 use Rattle.bx_words.proofs.Parses.{built_app, ours, plain_app, refused, rows_found, taken}
-use Rattle.bx_words.proofs.Walks.{named}
+use Rattle.bx_words.proofs.Walks.{named, numbered}
 use Rattle.bx_words.proofs.parse.find_matches.Goals as goal
 
 pub returns-in-Ok-clause-found : goal.returns-in-Ok-clause-found
@@ -22,6 +22,7 @@ returns-in-Ok-clause-found c =
       taken = has;
       rows_are = same;
       named = subst (λ found. All (λ file. IsSome (named_in found file)) (files_of (line_of verb))) (sym same) (named verb words has);
+      numbered = subst (λ found. All (λ number. IsSome (given_in found number)) (line_of verb).numbers) (sym same) (numbered verb words has);
     }
 
 pub returns-in-Err-clause-none : goal.returns-in-Err-clause-none

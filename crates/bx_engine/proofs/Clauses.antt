@@ -20,19 +20,21 @@ use Rattle.bx_words.specs.Words.{first_fault}
 use Rattle.bx_words.specs.declared.faults.WordFault.{WordFault}
 use Rattle.bx_engine.specs.declared.status.InputFault.{InputFault}
 use Rattle.bx_engine.specs.declared.status.Status.{Status}
-use Rattle.bx_engine.specs.declared.status.Status.TheVariants.{Found, Undecided, NoneWithin, Refused, ReadFault, WriteFault, NoMemory, Words}
+use Rattle.bx_engine.specs.declared.status.Status.TheVariants.{Found, Undecided, NoneWithin, Minimal, Wrong, Done, Refused, ReadFault, WriteFault, NoMemory, Words}
 use Rattle.bx_engine.specs.declared.status.Which.{Which}
 use Rattle.bx_engine.specs.Said.{search_text, refusal_text, word_fault_text, input_fault_text}
 use Rattle.bx_engine.specs.Statuses.{IsSettled, HasSearched, status_of}
-use Rattle.bx_engine.specs.Tasks.{Task, Inputs, IsTask, AreTold, IsThere, inputs_of}
+use Rattle.bx_engine.specs.Tasks.{Task, Names, Inputs, IsTask, AreTold, IsThere, inputs_of, read_for}
 use Rattle.bx_engine.specs.Texts.{AreRefused, AreTaken, by_module, by_library, network_of}
 use Rattle.bx_engine.specs.Answers.{Answer, Solves, IsDrawn, IsStatusOf, IsAnswerTo, IsAnswer, refusal, design_file, cert_file, files_of, answer_of}
-use Rattle.bx_engine.specs.Answers.{misused, answered as answers, refused as refused_for, searched as searched_so}
+use Rattle.bx_engine.specs.Answers.{misused, replied as replies, answered as answers, refused as refused_for, searched as searched_so}
 use Rattle.bx_engine.specs.Effects.{WritesAll, Gives, HasGiven, HasGivenSome, IsLeft, FailsToGive, NoneFell, NoneRose, RoseWriting, file_at}
-use Rattle.bx_engine.specs.Runs.{HasAnswer, EndsRun, IsReached, given, ungiven, unread, no_memory}
+use Rattle.bx_engine.specs.Runs.{HasAnswer, EndsRun, HasReached, given, ungiven, unread, no_memory}
 use Rattle.bx_engine.specs.Worth.{IsFound, IsLeftUndecided, IsNoneWithin, IsWorth}
 use Rattle.bx_engine.proofs.Answers.{status_searched, one_answer, to_task, settled_answer, answer_files, answer_others}
 use Rattle.bx_engine.proofs.Effects.{AreOthers, first_then, file_there, others_there, told_on, given_no_fault, given_others, ungiven_others, none_fell_same, none_fell_ungiven, none_fell_load, rose_ungiven, some_rose, said_on}
+use Rattle.bx_engine.specs.Jobs.{Job, IsJob, names_for}
+use Rattle.bx_engine.proofs.Jobs.{reply_no_words, reply_refused}
 use Rattle.bx_engine.proofs.Readings.{inputs_refused_once, inputs_not_both, inputs_taken_once}
 use Rattle.bx_engine.proofs.Tasks.{design_cert}
 use Rattle.bx_engine.proofs.Worth.{worth-is}
@@ -48,6 +50,9 @@ settled_search (ReadFault which) h = h
 settled_search (WriteFault which) h = h
 settled_search NoMemory h = h
 settled_search (Words fault) h = tt
+settled_search (Minimal ratio) h = tt
+settled_search (Wrong part k) h = tt
+settled_search Done h = tt
 
 module _ (task : Task) (inputs : Inputs) where
   no_words : (a : Answer) (fault : WordFault) → IsAnswerTo task inputs a → a.status ≡ Words fault → ⊥
@@ -123,17 +128,17 @@ module _ (words : List Text) (old new : DeskState) where
   was_given : (r : Status) → EndsRun words old new r → IsSettled r → WasGiven r
   was_given _ (given answer has gives) settled = record { answer = answer; has = has; same = refl; gives = gives }
   was_given _ (ungiven answer which has fails) settled = absurd settled
-  was_given _ (unread task which asks reached fails) settled = absurd settled
+  was_given _ (unread which reached fails) settled = absurd settled
   was_given _ (no_memory same) settled = absurd settled
 
   pub answered : (r : Status) → EndsRun words old new r → IsSettled r → (answer : Answer) × HasAnswer words old.files answer × (r ≡ answer.status) × Gives old new answer
   answered r o settled = let was = was_given r o settled in (was.answer, was.has, was.same, was.gives)
 
   -- what is read gives, the files that are told give
-  told_gives : (answer : Answer) (files : Files) → HasAnswer words old.files answer → old.files ≡ Some files → IsAnswer words (inputs_of files) answer
+  pub told_gives : (answer : Answer) (files : Files) → HasAnswer words old.files answer → old.files ≡ Some files → IsAnswer words (inputs_of files) answer
   told_gives answer files has e =
       let same : has.inputs ≡ inputs_of files = subst (λ (told : Option Files). AreTold told has.inputs) e has.are_told in
-      subst (λ (i : Task → Inputs). IsAnswer words i answer) same has.is
+      subst (λ (i : Names → Inputs). IsAnswer words i answer) same has.is
 
   pub exact : (r : Status) → EndsRun words old new r → IsSettled r → (files : Files) → old.files ≡ Some files → (answer : Answer) → IsAnswer words (inputs_of files) answer → (r ≡ answer.status) × Gives old new answer
   exact r o settled files e answer is =
@@ -143,19 +148,21 @@ module _ (words : List Text) (old new : DeskState) where
 
   -- ---- words
 
-  words_of : (inputs : Task → Inputs) (a : Answer) (fault : WordFault) → IsAnswer words inputs a → a.status ≡ Words fault → first_fault words ≡ Some fault
+  words_of : (inputs : Names → Inputs) (a : Answer) (fault : WordFault) → IsAnswer words inputs a → a.status ≡ Words fault → first_fault words ≡ Some fault
   words_of inputs _ fault (misused f is) e =
       let both : Words f ≡ Words fault = e in
       let same : f ≡ fault = cc in
       is ∙ ap Some same
-  words_of inputs _ fault (answers task a asks to) e = absurd (no_words task (inputs task) a fault to e)
+  words_of inputs _ fault (answers task a asks to) e = absurd (no_words task (inputs (read_for task)) a fault to e)
+  words_of inputs _ fault (replies job a asks to) e = absurd (reply_no_words job (inputs (names_for job)) a fault to e)
 
-  words_give : (inputs : Task → Inputs) (a : Answer) (fault : WordFault) → IsAnswer words inputs a → first_fault words ≡ Some fault → a.status ≡ Words fault
+  words_give : (inputs : Names → Inputs) (a : Answer) (fault : WordFault) → IsAnswer words inputs a → first_fault words ≡ Some fault → a.status ≡ Words fault
   words_give inputs _ fault (misused f is) e =
       let both : Some f ≡ Some fault = sym is ∙ e in
       let same : f ≡ fault = cc in
       ap Words same
   words_give inputs _ fault (answers task a asks to) e = let lost : None ≡ Some fault = sym asks.no_fault ∙ e in absurd (cc)
+  words_give inputs _ fault (replies job a asks to) e = let lost : None ≡ Some fault = sym asks.no_fault ∙ e in absurd (cc)
 
   pub words_only : (r : Status) → EndsRun words old new r → (fault : WordFault) → r ≡ Words fault → first_fault words ≡ Some fault
   words_only r o fault e =
@@ -173,12 +180,13 @@ module _ (words : List Text) (old new : DeskState) where
   said_refusal : (s : Status) (fault : Text) → Gives old new (refusal s fault) → Says old new (refusal_text fault)
   said_refusal s fault gives = subst (λ (d : DeskState). Says d new (refusal_text fault)) gives.files gives.said
 
-  said_to_words : (inputs : Task → Inputs) (a : Answer) (fault : WordFault) → IsAnswer words inputs a → a.status ≡ Words fault → Gives old new a → Says old new (refusal_text (word_fault_text fault))
+  said_to_words : (inputs : Names → Inputs) (a : Answer) (fault : WordFault) → IsAnswer words inputs a → a.status ≡ Words fault → Gives old new a → Says old new (refusal_text (word_fault_text fault))
   said_to_words inputs _ fault (misused f is) e gives =
       let both : Words f ≡ Words fault = e in
       let same : f ≡ fault = cc in
       subst (λ (x : WordFault). Says old new (refusal_text (word_fault_text x))) same (said_refusal (Words f) (word_fault_text f) gives)
-  said_to_words inputs _ fault (answers task a asks to) e gives = absurd (no_words task (inputs task) a fault to e)
+  said_to_words inputs _ fault (answers task a asks to) e gives = absurd (no_words task (inputs (read_for task)) a fault to e)
+  said_to_words inputs _ fault (replies job a asks to) e gives = absurd (reply_no_words job (inputs (names_for job)) a fault to e)
 
   said_to_task : (task : Task) (inputs : Inputs) (a : Answer) (fault : InputFault) → IsAnswerTo task inputs a → a.status ≡ Refused fault → Gives old new a → Says old new (refusal_text (input_fault_text fault))
   said_to_task task inputs _ fault (refused_for f is) e gives =
@@ -187,9 +195,12 @@ module _ (words : List Text) (old new : DeskState) where
       subst (λ (x : InputFault). Says old new (refusal_text (input_fault_text x))) same (said_refusal (Refused f) (input_fault_text f) gives)
   said_to_task task inputs _ fault (searched_so m lib cert found design taken solves drawn) e gives = absurd (subst HasSearched e (status_searched cert.last))
 
-  said_of_input : (inputs : Task → Inputs) (a : Answer) (fault : InputFault) → IsAnswer words inputs a → a.status ≡ Refused fault → Gives old new a → Says old new (refusal_text (input_fault_text fault))
+  said_of_input : (inputs : Names → Inputs) (a : Answer) (fault : InputFault) → IsAnswer words inputs a → a.status ≡ Refused fault → Gives old new a → Says old new (refusal_text (input_fault_text fault))
   said_of_input inputs _ fault (misused f is) e gives = let lost : Words f ≡ Refused fault = e in absurd (cc)
-  said_of_input inputs _ fault (answers task a asks to) e gives = said_to_task task (inputs task) a fault to e gives
+  said_of_input inputs _ fault (answers task a asks to) e gives = said_to_task task (inputs (read_for task)) a fault to e gives
+  said_of_input inputs _ fault (replies job a asks to) e gives =
+      said_refusal (Refused fault) (input_fault_text fault)
+      (subst (λ (x : Answer). Gives old new x) (reply_refused job (inputs (names_for job)) a fault to e).1 gives)
 
   pub words_said : (r : Status) → EndsRun words old new r → (fault : WordFault) → r ≡ Words fault → Says old new (refusal_text (word_fault_text fault))
   words_said r o fault e =
@@ -204,18 +215,18 @@ module _ (words : List Text) (old new : DeskState) where
   -- ---- a desk that tells its files
 
   module _ (task : Task) (files : Files) (asks : IsTask words task) (told : old.files ≡ Some files) where
-    to_told : (a : Answer) → HasAnswer words old.files a → IsAnswerTo task (inputs_of files task) a
+    to_told : (a : Answer) → HasAnswer words old.files a → IsAnswerTo task (inputs_of files (read_for task)) a
     to_told a has = to_task words (inputs_of files) a task (told_gives a files has told) asks
 
-    pub refused_only : (r : Status) → EndsRun words old new r → (fault : InputFault) → r ≡ Refused fault → AreRefused (inputs_of files task) fault
+    pub refused_only : (r : Status) → EndsRun words old new r → (fault : InputFault) → r ≡ Refused fault → AreRefused (inputs_of files (read_for task)) fault
     refused_only r o fault e =
         let was = was_given r o (subst IsSettled (sym e) tt) in
-        refused_of task (inputs_of files task) was.answer fault (to_told was.answer was.has) (sym was.same ∙ e)
+        refused_of task (inputs_of files (read_for task)) was.answer fault (to_told was.answer was.has) (sym was.same ∙ e)
 
-    pub refused : (r : Status) → EndsRun words old new r → IsSettled r → (fault : InputFault) → AreRefused (inputs_of files task) fault → r ≡ Refused fault
+    pub refused : (r : Status) → EndsRun words old new r → IsSettled r → (fault : InputFault) → AreRefused (inputs_of files (read_for task)) fault → r ≡ Refused fault
     refused r o settled fault h =
         let was = was_given r o settled in
-        was.same ∙ refused_gives task (inputs_of files task) was.answer fault (to_told was.answer was.has) h
+        was.same ∙ refused_gives task (inputs_of files (read_for task)) was.answer fault (to_told was.answer was.has) h
 
     -- the solution that was answered
     pub record WasSolved (m : ModuleTree) (lib : Tiles) (r : Status) : Type 0 where
@@ -241,10 +252,10 @@ module _ (words : List Text) (old new : DeskState) where
         unsaid (Some text) left = ap (λ (d : DeskState). file_at d.files task.design) gives.said ∙ left
         unsaid None left = ap (λ (d : DeskState). file_at d.files task.design) gives.said ∙ left
 
-    was_solved : (r : Status) → EndsRun words old new r → IsSettled r → (m : ModuleTree) (lib : Tiles) → AreTaken (inputs_of files task) m lib → WasSolved m lib r
+    was_solved : (r : Status) → EndsRun words old new r → IsSettled r → (m : ModuleTree) (lib : Tiles) → AreTaken (inputs_of files (read_for task)) m lib → WasSolved m lib r
     was_solved r o settled m lib taken =
         let was = was_given r o settled in
-        let is = solved_of task (inputs_of files task) was.answer m lib (to_told was.answer was.has) taken in
+        let is = solved_of task (inputs_of files (read_for task)) was.answer m lib (to_told was.answer was.has) taken in
         record {
           cert = is.cert;
           found = is.found;
@@ -255,16 +266,16 @@ module _ (words : List Text) (old new : DeskState) where
           has_given = it_has_given m is.cert is.found is.design (subst (λ (a : Answer). Gives old new a) is.same was.gives);
         }
 
-    pub searched_only : (r : Status) → EndsRun words old new r → HasSearched r → (m : ModuleTree) × (lib : Tiles) × AreTaken (inputs_of files task) m lib × IsStatusOf task m lib r
+    pub searched_only : (r : Status) → EndsRun words old new r → HasSearched r → (m : ModuleTree) × (lib : Tiles) × AreTaken (inputs_of files (read_for task)) m lib × IsStatusOf task m lib r
     searched_only r o searched =
         let was = was_given r o (settled_search r searched) in
-        let is = searched_of task (inputs_of files task) was.answer (to_told was.answer was.has) (subst HasSearched was.same searched) in
+        let is = searched_of task (inputs_of files (read_for task)) was.answer (to_told was.answer was.has) (subst HasSearched was.same searched) in
         (is.0, is.1, is.2, (is.3.cert, is.3.found, is.3.solves, was.same ∙ ap (λ (a : Answer). a.status) is.3.same))
 
-    pub taken_solved : (r : Status) → EndsRun words old new r → IsSettled r → (m : ModuleTree) (lib : Tiles) → AreTaken (inputs_of files task) m lib → IsStatusOf task m lib r
+    pub taken_solved : (r : Status) → EndsRun words old new r → IsSettled r → (m : ModuleTree) (lib : Tiles) → AreTaken (inputs_of files (read_for task)) m lib → IsStatusOf task m lib r
     taken_solved r o settled m lib taken = let was = was_solved r o settled m lib taken in (was.cert, was.found, was.solves, was.same)
 
-    module _ (m : ModuleTree) (lib : Tiles) (taken : AreTaken (inputs_of files task) m lib) where
+    module _ (m : ModuleTree) (lib : Tiles) (taken : AreTaken (inputs_of files (read_for task)) m lib) where
       -- what a status says of what was given
       abbrev SaysOf : Status → Option Text → Text → Text → Type 0
       SaysOf (Found ratio) design cert said = IsSomeAnd design (λ bytes. IsFound task m lib ratio bytes cert said)
@@ -302,13 +313,13 @@ module _ (words : List Text) (old new : DeskState) where
 
   -- ---- the files are there
 
-  is_there : (told : Option Files) (inputs : Task → Inputs) (task : Task) → AreTold told inputs → IsSome (inputs task).net → IsThere told task.net
+  is_there : (told : Option Files) (inputs : Names → Inputs) (task : Task) → AreTold told inputs → IsSome (inputs (read_for task)).net → IsThere told task.net
   is_there None inputs task same is = tt
-  is_there (Some t) inputs task same is = subst (λ (i : Task → Inputs). IsSome (i task).net) same is
+  is_there (Some t) inputs task same is = subst (λ (i : Names → Inputs). IsSome (i (read_for task)).net) same is
 
-  library_is_there : (told : Option Files) (inputs : Task → Inputs) (task : Task) → AreTold told inputs → IsSome (inputs task).lib → IsThere told task.lib
+  library_is_there : (told : Option Files) (inputs : Names → Inputs) (task : Task) → AreTold told inputs → IsSome (inputs (read_for task)).lib → IsThere told task.lib
   library_is_there None inputs task same is = tt
-  library_is_there (Some t) inputs task same is = subst (λ (i : Task → Inputs). IsSome (i task).lib) same is
+  library_is_there (Some t) inputs task same is = subst (λ (i : Names → Inputs). IsSome (i (read_for task)).lib) same is
 
   some_is : (o : Option Text) (text : Text) → o ≡ Some text → IsSome o
   some_is o text e = subst (λ (p : Option Text). IsSome p) (sym e) refl
@@ -325,13 +336,13 @@ module _ (words : List Text) (old new : DeskState) where
   pub there : (r : Status) → EndsRun words old new r → IsSettled r → (task : Task) → IsTask words task → IsThere old.files task.net
   there r o settled task asks =
       let was = was_given r o settled in
-      is_there old.files was.has.inputs task was.has.are_told (net_read task (was.has.inputs task) was.answer (to_task words was.has.inputs was.answer task was.has.is asks))
+      is_there old.files was.has.inputs task was.has.are_told (net_read task (was.has.inputs (read_for task)) was.answer (to_task words was.has.inputs was.answer task was.has.is asks))
 
   pub library_there : (r : Status) → EndsRun words old new r → HasSearched r → (task : Task) → IsTask words task → IsThere old.files task.lib
   library_there r o searched task asks =
       let was = was_given r o (settled_search r searched) in
       library_is_there old.files was.has.inputs task was.has.are_told
-      (lib_read task (was.has.inputs task) was.answer (to_task words was.has.inputs was.answer task was.has.is asks) (subst HasSearched was.same searched))
+      (lib_read task (was.has.inputs (read_for task)) was.answer (to_task words was.has.inputs was.answer task was.has.is asks) (subst HasSearched was.same searched))
 
   -- ---- faults, and what stays
 
@@ -342,13 +353,13 @@ module _ (words : List Text) (old new : DeskState) where
   pub settled_no_fault : (r : Status) → EndsRun words old new r → IsSettled r → new.faults ≡ old.faults
   settled_no_fault r o settled = let was = was_given r o settled in given_no_fault old new was.answer was.gives
 
-  pub read_fault : (r : Status) → EndsRun words old new r → (which : Which) → r ≡ ReadFault which → (task : Task) × IsTask words task × IsReached old.files task which × FailsToLoad old new
+  pub read_fault : (r : Status) → EndsRun words old new r → (which : Which) → r ≡ ReadFault which → HasReached words old.files which × FailsToLoad old new
   read_fault _ (given answer has gives) which e = absurd (unsettled answer (ReadFault which) has e)
   read_fault _ (ungiven answer other has fails) which e = let lost : WriteFault other ≡ ReadFault which = e in absurd (cc)
-  read_fault _ (unread task other asks reached fails) which e =
+  read_fault _ (unread other reached fails) which e =
       let same : ReadFault other ≡ ReadFault which = e in
       let is : other ≡ which = cc in
-      (task, asks, subst (IsReached old.files task) is reached, fails)
+      (subst (HasReached words old.files) is reached, fails)
   read_fault _ (no_memory same) which e = let lost : NoMemory ≡ ReadFault which = e in absurd (cc)
 
   pub write_fault : (r : Status) → EndsRun words old new r → (which : Which) → r ≡ WriteFault which → (answer : Answer) × HasAnswer words old.files answer × FailsToGive old new answer which
@@ -357,11 +368,11 @@ module _ (words : List Text) (old new : DeskState) where
       let same : WriteFault other ≡ WriteFault which = e in
       let is : other ≡ which = cc in
       (answer, has, subst (λ (w : Which). FailsToGive old new answer w) is fails)
-  write_fault _ (unread task other asks reached fails) which e = let lost : ReadFault other ≡ WriteFault which = e in absurd (cc)
+  write_fault _ (unread other reached fails) which e = let lost : ReadFault other ≡ WriteFault which = e in absurd (cc)
   write_fault _ (no_memory same) which e = let lost : NoMemory ≡ WriteFault which = e in absurd (cc)
 
   pub read_rose : (r : Status) → EndsRun words old new r → (which : Which) → r ≡ ReadFault which → Rose old.faults.load new.faults.load
-  read_rose r o which e = let (task, asks, reached, fails) = read_fault r o which e in fails.rose
+  read_rose r o which e = (read_fault r o which e).1.rose
 
   pub write_rose : (r : Status) → EndsRun words old new r → (which : Which) → r ≡ WriteFault which → RoseWriting which old.faults new.faults
   write_rose r o which e = let (answer, has, fails) = write_fault r o which e in rose_ungiven old new answer (answer_files words has.inputs answer has.is) which fails
@@ -369,26 +380,26 @@ module _ (words : List Text) (old new : DeskState) where
   pub complete : (r : Status) → EndsRun words old new r → NoneRose old.faults new.faults → (r ≡ NoMemory) ⊎ IsSettled r
   complete _ (given answer has gives) none = inr (settled_answer words has.inputs answer has.is)
   complete _ (ungiven answer which has fails) none = absurd (some_rose old new answer which fails none)
-  complete _ (unread task which asks reached fails) none = absurd (none.load fails.rose)
+  complete _ (unread which reached fails) none = absurd (none.load fails.rose)
   complete _ (no_memory same) none = inl refl
 
   pub no_memory_stays : (r : Status) → EndsRun words old new r → r ≡ NoMemory → new ≡ old
   no_memory_stays _ (given answer has gives) e = absurd (unsettled answer NoMemory has e)
   no_memory_stays _ (ungiven answer which has fails) e = let lost : WriteFault which ≡ NoMemory = e in absurd (cc)
-  no_memory_stays _ (unread task which asks reached fails) e = let lost : ReadFault which ≡ NoMemory = e in absurd (cc)
+  no_memory_stays _ (unread which reached fails) e = let lost : ReadFault which ≡ NoMemory = e in absurd (cc)
   no_memory_stays _ (no_memory same) e = same
 
   pub none_fell : (r : Status) → EndsRun words old new r → NoneFell old.faults new.faults
   none_fell _ (given answer has gives) = none_fell_same old.faults new.faults (given_no_fault old new answer gives)
   none_fell _ (ungiven answer which has fails) = none_fell_ungiven old new answer which fails
-  none_fell _ (unread task which asks reached fails) = none_fell_load old new fails
+  none_fell _ (unread which reached fails) = none_fell_load old new fails
   none_fell _ (no_memory same) = none_fell_same old.faults new.faults (ap (λ (d : DeskState). d.faults) same)
 
   -- a file that no answer writes stays
   stays : (r : Status) → EndsRun words old new r → (q : Text) → ((a : Answer) → HasAnswer words old.files a → AreOthers q a.files) → file_at new.files q ≡ file_at old.files q
   stays _ (given answer has gives) q others = given_others old new answer q (others answer has) gives
   stays _ (ungiven answer which has fails) q others = ungiven_others old new answer q (others answer has) which fails
-  stays _ (unread task which asks reached fails) q others = ap (λ (d : DeskState). file_at d.files q) fails.kept
+  stays _ (unread which reached fails) q others = ap (λ (d : DeskState). file_at d.files q) fails.kept
   stays _ (no_memory same) q others = ap (λ (d : DeskState). file_at d.files q) same
 
   pub others_stay : (r : Status) → EndsRun words old new r → (name : Text) → ((task : Task) → IsTask words task → (task.design ≢ name) × (task.cert ≢ name)) → file_at new.files name ≡ file_at old.files name

@@ -14,7 +14,7 @@ use Rattle.bx_engine.specs.declared.status.InputFault.{InputFault}
 use Rattle.bx_engine.specs.declared.status.Status.TheVariants.{Words, Refused}
 use Rattle.bx_engine.specs.Answers.{Answer, IsAnswer, IsAnswerTo, IsDrawn, answer_of, refusal, refused, searched, misused, answered}
 use Rattle.bx_engine.specs.Said.{word_fault_text, input_fault_text}
-use Rattle.bx_engine.specs.Tasks.{Task, Inputs, IsTask, inputs_of}
+use Rattle.bx_engine.specs.Tasks.{Task, Names, Inputs, IsTask, inputs_of, read_for}
 use Rattle.bx_engine.specs.Texts.{IsTaken, IsTakenLibrary, IsRefusedLibrary, AreTaken, by_module, by_library, network_of}
 use Rattle.bx_engine.proofs.EachText.{each_text}
 use Rattle.bx_engine.proofs.SomeDrawing.{some-drawing}
@@ -26,17 +26,17 @@ some_drawn : (lib : Tiles) (found : Option LaidOut) → (design : Option Drawing
 some_drawn lib (Some laid) = let (drawing, draws) = some-drawing lib laid.grid in (Some drawing, draws)
 some_drawn lib None = (None, refl)
 
-pub some_refusal : (words : List Text) (inputs : Task → Inputs) (fault : WordFault) → first_fault words ≡ Some fault → (answer : Answer) × IsAnswer words inputs answer
+pub some_refusal : (words : List Text) (inputs : Names → Inputs) (fault : WordFault) → first_fault words ≡ Some fault → (answer : Answer) × IsAnswer words inputs answer
 some_refusal words inputs fault first = (refusal (Words fault) (word_fault_text fault), misused fault first)
 
 module _ (words : List Text) (files : Files) (task : Task) (text book : Text) (asks : IsTask words task) (there : files task.net ≡ Some text) (has : files task.lib ≡ Some book)
     (each : ((fault : InputFault) × IsRefusedLibrary book fault) ⊎ ((lib : Tiles) × IsTakenLibrary book lib)) where
-  some_to_both : (m : ModuleTree) (lib : Tiles) → IsTaken text m → IsTakenLibrary book lib → (answer : Answer) × IsAnswerTo task (inputs_of files task) answer
+  some_to_both : (m : ModuleTree) (lib : Tiles) → IsTaken text m → IsTakenLibrary book lib → (answer : Answer) × IsAnswerTo task (inputs_of files (read_for task)) answer
   some_to_both m lib taken library =
       let few = taken.is_mapped.few in
       let (cert, found, solves) = some-solution (network_of m) (permit_of lib) task.limits task.budget (network-is text m taken) (omega (arith, few)) (limits_are words task asks) in
       let (design, drawn) = some_drawn lib found in
-      let are : AreTaken (inputs_of files task) m lib = record {
+      let are : AreTaken (inputs_of files (read_for task)) m lib = record {
         net_text = text;
         net_is = there;
         taken = taken;
@@ -46,13 +46,13 @@ module _ (words : List Text) (files : Files) (task : Task) (text book : Text) (a
       } in
       (answer_of task m cert found design, searched m lib cert found design are solves drawn)
 
-  some_to_module : (m : ModuleTree) → IsTaken text m → (answer : Answer) × IsAnswerTo task (inputs_of files task) answer
+  some_to_module : (m : ModuleTree) → IsTaken text m → (answer : Answer) × IsAnswerTo task (inputs_of files (read_for task)) answer
   some_to_module m taken = elim each [
     | inl (fault, is) ↦ (refusal (Refused fault) (input_fault_text fault), refused fault (by_library text book m there taken has is))
     | inr (lib, library) ↦ some_to_both m lib taken library
   ]
 
-  some_to_inputs : (answer : Answer) × IsAnswerTo task (inputs_of files task) answer
+  some_to_inputs : (answer : Answer) × IsAnswerTo task (inputs_of files (read_for task)) answer
   some_to_inputs = elim (each_text text) [
     | inl (fault, is) ↦ (refusal (Refused fault) (input_fault_text fault), refused fault (by_module text there is))
     | inr (m, taken) ↦ some_to_module m taken

@@ -8,8 +8,11 @@ pub mod Serving
 pub mod Tasks
 pub mod Readings
 pub mod EachText
+pub mod Designs
 pub mod Drawings
 pub mod SomeDrawing
+pub mod Jobs
+pub mod Working
 pub mod Answers
 pub mod PlainNames
 pub mod Worth
@@ -17,4 +20,5 @@ pub mod Least
 pub mod Existence
 pub mod Reported
 pub mod Clauses
+pub mod JobClauses
 pub mod Refusals

@@ -1,21 +1,26 @@
 -- The lines of a report and of a refusal, as they are put out, are those of the definitions.
-use Rattle.std.proofs.Common.{◌≡◌, ℕ, List, [], ◌∷◌, ◌++◌, map, Option, Some, refl, sym, ◌∙◌, ap, ap₂, append_assoc}
-use Rattle.std.specs.Prelude.{codes}
+use Rattle.std.proofs.Common.{◌≡◌, ℕ, List, [], ◌∷◌, ◌++◌, map, length, Option, Some, refl, sym, ◌∙◌, ap, ap₂, append_assoc}
+use Rattle.std.specs.Prelude.{Bool, codes}
 use Rattle.std.proofs.lemmas.List.{append-nil}
+use Rattle.bx_cert.specs.Certs.{Certificate}
 use Rattle.bx_cert.specs.declared.parts.CertLast.{CertLast}
 use Rattle.bx_cert.specs.declared.parts.CertLast.TheVariants.{Found}
 use Rattle.bx_cert.specs.declared.parts.Spot.{Spot}
 use Rattle.bx_design.specs.declared.solution.LaidOut.{LaidOut}
 use Rattle.bx_logic.specs.Nets.{Netlist}
 use Rattle.bx_grid.specs.declared.ratio.Ratio.{Ratio}
+use Rattle.bx_layout.specs.Grids.{FormGrid}
 use Rattle.bx_network.specs.Networks.{Network}
 use Rattle.bx_lines.specs.Lines.{ended, text_of}
 use Rattle.bx_desk.specs.declared.printer.Word.{Word}
 use Rattle.bx_says.specs.Texts.{Text, spaced}
 use Rattle.bx_desk.specs.Words.{word_text, further_text}
 use Rattle.bx_says.specs.Ports.{ports_of}
-use Rattle.bx_says.specs.Reports.{head_of, report_of, head_lines, found_line, port_lines, row_lines, report_text}
+use Rattle.bx_says.specs.Reports.{head_of, report_of, head_lines, nodes_line, found_line, port_lines, row_lines, report_text}
 use Rattle.bx_says.proofs.Printed.{line_is, report_is}
+use Rattle.bx_engine.specs.declared.sample.Tally.{Tally}
+use Rattle.bx_engine.specs.Samples.{sample_line, tally_line, tally_of, summary_text}
+use Rattle.bx_engine.specs.Grids.{ratio_line, sound_line, grid_text}
 use Rattle.bx_engine.specs.Said.{last_line, layout_lines, found_lines, search_text, refusal_text}
 
 -- texts one behind the other
@@ -54,3 +59,21 @@ refusal_is first words =
     ap (λ (xs : Text). codes "refused" ++ 32 ∷ xs) (line_is first words)
     ∙ ap (λ (xs : Text). codes "refused" ++ 32 ∷ xs ++ 10 ∷ []) (sym (append-nil fault))
     ∙ sym (append_assoc (codes "refused") (32 ∷ (fault ++ [])) (10 ∷ []))
+
+-- the lines of a grid, as they are put out
+pub grid-parts : (r : Ratio) (grid : FormGrid) (sound : Bool) → r ≡ grid.ratio → ended (ratio_line r) ++ (text_of (row_lines grid) ++ ended (sound_line sound)) ≡ grid_text grid sound
+grid-parts r grid sound same =
+    ap (λ (q : Ratio). ended (ratio_line q) ++ (text_of (row_lines grid) ++ ended (sound_line sound))) same
+    ∙ ap (λ (xs : Text). ended (ratio_line grid.ratio) ++ xs)
+    (ap (λ (xs : Text). text_of (row_lines grid) ++ xs) (sym (append-nil (ended (sound_line sound)))) ∙ texts-append (row_lines grid) (sound_line sound ∷ []))
+
+-- four lines one behind the other
+pub four-lines : (a b c d : Text) → ended a ++ (ended b ++ (ended c ++ ended d)) ≡ text_of (a ∷ b ∷ c ∷ d ∷ [])
+four-lines a b c d = ap (λ (xs : Text). ended a ++ (ended b ++ (ended c ++ xs))) (sym (append-nil (ended d)))
+
+-- the summary of a sample, as it is put out, also where how the search ended and the tally are named in other ways
+pub summary-parts : (n g e : ℕ) (N : Network) (cert : Certificate) (l : CertLast) (t : Tally) → l ≡ cert.last → t ≡ tally_of cert.sections
+    → ended (sample_line n g e) ++ (ended (nodes_line (length N.nodes) (length N.edges)) ++ (ended (last_line l) ++ ended (tally_line t))) ≡ summary_text n g e N cert
+summary-parts n g e N cert l t same tallies =
+    ap₂ (λ (x : CertLast) (y : Tally). ended (sample_line n g e) ++ (ended (nodes_line (length N.nodes) (length N.edges)) ++ (ended (last_line x) ++ ended (tally_line y)))) same tallies
+    ∙ four-lines (sample_line n g e) (nodes_line (length N.nodes) (length N.edges)) (last_line cert.last) (tally_line (tally_of cert.sections))

@@ -21,7 +21,7 @@ use Rattle.bx_map.specs.Maps.{mapping_of}
 use Rattle.bx_engine.specs.declared.load.NoInput.{NoInput}
 use Rattle.bx_engine.specs.declared.load.NoInput.TheVariants.{Fault, Unread, NoMemory}
 use Rattle.bx_engine.specs.declared.limits.TheConstants.{MODULE_NODES}
-use Rattle.bx_engine.specs.declared.status.InputFault.TheVariants.{TooLong, Lex, Read, Net, Constant, Nodes, Library}
+use Rattle.bx_engine.specs.declared.status.InputFault.TheVariants.{TooLong, Lex, Read, Net, Constant, Nodes, Library, Design, Cut, Cert}
 use Rattle.bx_engine.specs.Runs.{read_end, net_end, library_end, LibraryEnds, HasNet, HasNetwork, HasModule, ReadsModule, NetEnds, TextEnds}
 use Rattle.bx_engine.specs.Texts.{IsShort, IsShortLibrary, IsText, IsMapped, IsConstant, HasManyNodes}
 
@@ -54,6 +54,9 @@ refused-net text net (Fault (Lex fault)) has is = absurd is
 refused-net text net (Fault (Read fault)) has is = absurd is
 refused-net text net (Fault (Net fault)) has is = absurd is
 refused-net text net (Fault (Library fault)) has is = absurd is
+refused-net text net (Fault (Design fault)) has is = absurd is
+refused-net text net (Fault (Cut fault ratio)) has is = absurd is
+refused-net text net (Fault (Cert fault)) has is = absurd is
 refused-net text net Unread has is = is
 refused-net text net NoMemory has is = tt
 

@@ -24,7 +24,7 @@ use Rattle.bx_logic.specs.Nets.{Netlist, output_names}
 use Rattle.bx_map.specs.Maps.{first_constant}
 use Rattle.bx_verilog.proofs.OneMeaning.{one-meaning}
 use Rattle.bx_engine.specs.declared.status.InputFault.{InputFault}
-use Rattle.bx_engine.specs.declared.status.InputFault.TheVariants.{TooLong, Lex, Read, Net, Constant, Nodes, Library}
+use Rattle.bx_engine.specs.declared.status.InputFault.TheVariants.{TooLong, Lex, Read, Net, Constant, Nodes, Library, Design, Cut, Cert}
 use Rattle.bx_engine.specs.declared.status.Which.{Which}
 use Rattle.bx_engine.specs.declared.status.Which.TheVariants.{LibFile}
 use Rattle.bx_engine.specs.Tasks.{Inputs}
@@ -96,6 +96,9 @@ module _ (text : Text) where
   no_early m (Constant name) good early x = early
   no_early m (Nodes count) good early x = early
   no_early m (Library fault) good early x = x
+  no_early m (Design fault) good early x = x
+  no_early m (Cut fault ratio) good early x = x
+  no_early m (Cert fault) good early x = x
 
   -- what holds of the net of one module of the text holds of that of another
   of_one : (P : Netlist → Type 0) (m n : ModuleTree) → IsGood text m → IsGood text n → P (net_of m) → P (net_of n)
@@ -144,7 +147,28 @@ module _ (text : Text) where
   refused_once (Net f) (Library g) x y = absurd y
   refused_once (Constant n) (Library g) x y = absurd y
   refused_once (Nodes c) (Library g) x y = absurd y
+  refused_once (TooLong v) (Design g) x y = absurd y
+  refused_once (Lex f) (Design g) x y = absurd y
+  refused_once (Read f) (Design g) x y = absurd y
+  refused_once (Net f) (Design g) x y = absurd y
+  refused_once (Constant n) (Design g) x y = absurd y
+  refused_once (Nodes c) (Design g) x y = absurd y
+  refused_once (TooLong v) (Cut g r) x y = absurd y
+  refused_once (Lex f) (Cut g r) x y = absurd y
+  refused_once (Read f) (Cut g r) x y = absurd y
+  refused_once (Net f) (Cut g r) x y = absurd y
+  refused_once (Constant n) (Cut g r) x y = absurd y
+  refused_once (Nodes c) (Cut g r) x y = absurd y
+  refused_once (TooLong v) (Cert g) x y = absurd y
+  refused_once (Lex f) (Cert g) x y = absurd y
+  refused_once (Read f) (Cert g) x y = absurd y
+  refused_once (Net f) (Cert g) x y = absurd y
+  refused_once (Constant n) (Cert g) x y = absurd y
+  refused_once (Nodes c) (Cert g) x y = absurd y
   refused_once (Library f) g x y = absurd x
+  refused_once (Design f) g x y = absurd x
+  refused_once (Cut f r) g x y = absurd x
+  refused_once (Cert f) g x y = absurd x
 
   pub not_both : (m : ModuleTree) (f : InputFault) → IsTaken text m → IsRefused text f → ⊥
   not_both m (Constant name) is (n, b, q) = no_constant (net_of m) name (of_one (λ net. IsConstant net name) n m b is.good q) is.is_mapped.no_constant
@@ -154,6 +178,9 @@ module _ (text : Text) where
   not_both m (Read g) is x = no_early m (Read g) is.good tt x
   not_both m (Net g) is x = no_early m (Net g) is.good tt x
   not_both m (Library fault) is x = x
+  not_both m (Design fault) is x = x
+  not_both m (Cut fault ratio) is x = x
+  not_both m (Cert fault) is x = x
 
   pub one_module : (m n : ModuleTree) → IsTaken text m → IsTaken text n → m ≡ n
   one_module m n a b = one_text text m n a.good.is_text b.good.is_text
@@ -174,6 +201,9 @@ module _ (text : Text) where
   bad_library (Net g) x = absurd x
   bad_library (Constant name) x = absurd x
   bad_library (Nodes count) x = absurd x
+  bad_library (Design fault) x = absurd x
+  bad_library (Cut fault ratio) x = absurd x
+  bad_library (Cert fault) x = absurd x
 
   bad_once : (f g : InputFault) → IsBadLibrary text f → IsBadLibrary text g → f ≡ g
   bad_once _ _ (is_long l) (is_long m) = refl

@@ -1,6 +1,6 @@
 -- What words ask for is one task, whatever number of workers they give; its options lie in their ranges, and no file is
 -- written over another.
-use Rattle.std.proofs.Common.{◌≡◌, ℕ, ◌≤◌, List, [], ◌∷◌, Option, Some, sym, ap, ◌∙◌, subst}
+use Rattle.std.proofs.Common.{◌≡◌, ℕ, ◌≤◌, List, [], ◌∷◌, Option, Some, refl, sym, ap, ◌∙◌, subst, arith}
 use Rattle.std.specs.Prelude.{◌≢◌}
 use Rattle.std.proofs.lemmas.List.Elements.{All-head, All-tail}
 use Rattle.bx_grid.specs.Orders.{AreLimits}
@@ -8,20 +8,21 @@ use Rattle.bx_grid.specs.declared.ratio.Limits.{Limits}
 use Rattle.bx_words.specs.Verbs.{Text, verb_of}
 use Rattle.bx_words.specs.Clap.{rows, given_in, named_in}
 use Rattle.bx_words.specs.Names.{AreApart}
-use Rattle.bx_words.specs.Words.{limits_of}
+use Rattle.bx_words.specs.Words.{limits_of, value_at}
 use Rattle.bx_words.specs.Workers.{DifferInWorkers}
 use Rattle.bx_words.specs.declared.opts.Opt.{Opt}
-use Rattle.bx_words.specs.declared.opts.Opt.TheVariants.{Area, Width, Height, Budget, Workers}
+use Rattle.bx_words.specs.declared.opts.Opt.TheVariants.{Area, Width, Height, Budget, Workers, Number, Gates, Extra}
 use Rattle.bx_words.specs.declared.verbs.File.{File}
 use Rattle.bx_words.specs.declared.verbs.File.TheVariants.{Net, Lib, Design as DesignFile, Cert}
 use Rattle.bx_words.specs.declared.verbs.Verb.{Verb}
-use Rattle.bx_words.specs.declared.verbs.Verb.TheVariants.{Design}
+use Rattle.bx_words.specs.declared.verbs.Verb.TheVariants.{Design, Extract, Verify, Sample}
 use Rattle.bx_words.proofs.CauseLemmas.{one_verb}
 use Rattle.bx_words.proofs.Faultless.{IsFaultless, faultless, names_apart}
 use Rattle.bx_words.proofs.Taken.{value_within}
 use Rattle.bx_words.proofs.Workers.{faults, limits_same, budget_same}
-use Rattle.bx_engine.specs.Answers.{Answer, IsAnswer, misused, answered}
-use Rattle.bx_engine.specs.Tasks.{Task, Inputs, IsTask}
+use Rattle.bx_engine.specs.Answers.{Answer, IsAnswer, misused, answered, replied}
+use Rattle.bx_engine.specs.Jobs.{Job, extracts, verifies, samples, IsJob, verb_for}
+use Rattle.bx_engine.specs.Tasks.{Task, Names, Inputs, IsTask}
 
 -- ---- one task
 
@@ -55,9 +56,9 @@ module _ (words : List Text) (task : Task) (is : IsTask words task) where
   pub limits_are : AreLimits task.limits
   limits_are =
       let given = given_in (rows Design words) in
-      let area = value_within given is_faultless.taken 0 Area in
-      let width = value_within given is_faultless.taken (limits_of given).area Width in
-      let height = value_within given is_faultless.taken (limits_of given).area Height in
+      let area = value_within given 0 Area (is_faultless.taken Area (0, omega arith, refl)) in
+      let width = value_within given (limits_of given).area Width (is_faultless.taken Width (1, omega arith, refl)) in
+      let height = value_within given (limits_of given).area Height (is_faultless.taken Height (2, omega arith, refl)) in
       rw is.limits (record {
         some_area = area.least;
         some_width = width.least;
@@ -68,7 +69,7 @@ module _ (words : List Text) (task : Task) (is : IsTask words task) where
       })
 
   pub budget_is : task.budget ≤ 67108864
-  budget_is = rw is.budget (value_within (given_in (rows Design words)) is_faultless.taken (limits_of (given_in (rows Design words))).area Budget).most
+  budget_is = rw is.budget (value_within (given_in (rows Design words)) (limits_of (given_in (rows Design words))).area Budget (is_faultless.taken Budget (3, omega arith, refl))).most
 
   are_apart : AreApart (task.net ∷ task.lib ∷ []) (task.design ∷ task.cert ∷ [])
   are_apart = names_apart (rows Design words) task.net task.lib task.design task.cert is.net is.lib is.design is.cert is_faultless.apart
@@ -118,6 +119,48 @@ module _ (one other : List Text) (d : DifferInWorkers one other) where
     options : (o : Opt) → o ≢ Workers → given_in (rows Design one) o ≡ given_in (rows Design other) o
     options o not_workers = subst (λ (v : Verb). given_in (rows v one) o ≡ given_in (rows v other) o) (sym verb_is) (d.options o not_workers)
 
-  pub answer_for_all : (inputs : Task → Inputs) (answer : Answer) → IsAnswer one inputs answer → IsAnswer other inputs answer
+  same_verb : (v : Verb) → verb_of one ≡ Some v → v ≡ d.verb
+  same_verb v e = one_verb (verb_of one) v d.verb e d.one_is_read.first
+
+  verb_too : (v : Verb) → verb_of one ≡ Some v → verb_of other ≡ Some v
+  verb_too v e = subst (λ (w : Verb). verb_of other ≡ Some w) (sym (same_verb v e)) d.other_is_read.first
+
+  names_too : (v : Verb) → verb_of one ≡ Some v → (f : File) (name : Text) → named_in (rows v one) f ≡ Some name → named_in (rows v other) f ≡ Some name
+  names_too v e f name is = sym (subst (λ (w : Verb). named_in (rows w one) f ≡ named_in (rows w other) f) (sym (same_verb v e)) (d.files f)) ∙ is
+
+  number_too : (o : Opt) → o ≢ Workers → verb_of one ≡ Some Sample → (n : ℕ) → n ≡ value_at 0 (given_in (rows Sample one)) o → n ≡ value_at 0 (given_in (rows Sample other)) o
+  number_too o not_workers e n is =
+      let given : given_in (rows Sample one) o ≡ given_in (rows Sample other) o =
+      subst (λ (w : Verb). given_in (rows w one) o ≡ given_in (rows w other) o) (sym (same_verb Sample e)) (d.options o not_workers) in
+      is ∙ ap (λ (x : Option Text). value_at 0 (λ p. x) o) given
+
+  job_for_all : (job : Job) → IsJob one job → IsJob other job
+  job_for_all (extracts lib design) is = record {
+    no_fault = sym (faults one other d) ∙ is.no_fault;
+    verb = verb_too Extract is.verb;
+    given = (names_too Extract is.verb Lib lib is.given.0, names_too Extract is.verb DesignFile design is.given.1);
+  }
+  job_for_all (verifies net lib design cert) is = record {
+    no_fault = sym (faults one other d) ∙ is.no_fault;
+    verb = verb_too Verify is.verb;
+    given = (
+      names_too Verify is.verb Net net is.given.0,
+      names_too Verify is.verb Lib lib is.given.1,
+      names_too Verify is.verb DesignFile design is.given.2,
+      names_too Verify is.verb Cert cert is.given.3,
+    );
+  }
+  job_for_all (samples number gates extra) is = record {
+    no_fault = sym (faults one other d) ∙ is.no_fault;
+    verb = verb_too Sample is.verb;
+    given = (
+      number_too Number (λ e. cc) is.verb number is.given.0,
+      number_too Gates (λ e. cc) is.verb gates is.given.1,
+      number_too Extra (λ e. cc) is.verb extra is.given.2,
+    );
+  }
+
+  pub answer_for_all : (inputs : Names → Inputs) (answer : Answer) → IsAnswer one inputs answer → IsAnswer other inputs answer
   answer_for_all inputs _ (misused fault is) = misused fault (sym (faults one other d) ∙ is)
   answer_for_all inputs answer (answered task _ asks to) = answered task answer (one_for_all task asks) to
+  answer_for_all inputs answer (replied job _ asks to) = replied job answer (job_for_all job asks) to

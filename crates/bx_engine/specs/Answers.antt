@@ -25,8 +25,10 @@ use Rattle.bx_engine.specs.declared.status.Status.TheVariants.{Words, Refused}
 use Rattle.bx_engine.specs.declared.status.Which.{Which}
 use Rattle.bx_engine.specs.declared.status.Which.TheVariants.{DesignFile, CertFile}
 use Rattle.bx_engine.specs.Said.{search_text, refusal_text, word_fault_text, input_fault_text}
+use Rattle.bx_engine.specs.Jobs.{Job, IsJob, names_for}
+use Rattle.bx_engine.specs.Replies.{IsRefusedFor, IsTold}
 use Rattle.bx_engine.specs.Statuses.{status_of}
-use Rattle.bx_engine.specs.Tasks.{Task, IsTask, Inputs}
+use Rattle.bx_engine.specs.Tasks.{Task, IsTask, Names, Inputs, read_for}
 use Rattle.bx_engine.specs.Texts.{AreRefused, AreTaken, network_of}
 
 -- ---- answers
@@ -108,9 +110,27 @@ pub data IsAnswerTo (task : Task) (inputs : Inputs) : Answer → Type 0 where
       (design : Option Drawing) → AreTaken inputs m lib → Solves task m lib cert found
       → IsDrawn lib found design → IsAnswerTo task inputs (answer_of task m cert found design)
 
--- the answer to words, by what is read for their task
-pub data IsAnswer (words : List Text) (inputs : Task → Inputs) : Answer → Type 0 where
+-- a reply writes no file
+abbrev pub reply : Status → Text → Answer
+reply status said = record { status = status; files = []; said = said }
+
+-- the answer to a job, by what is read for it
+pub data IsReply (job : Job) (inputs : Inputs) : Answer → Type 0 where
+  turned_down : (fault : InputFault) → IsRefusedFor job inputs fault
+      → IsReply job inputs (refusal (Refused fault) (input_fault_text fault))
+  told : (status : Status) (said : Text) → IsTold job inputs status said
+      → IsReply job inputs (reply status said)
+
+-- the files that words name to be read
+pub data AreRead (words : List Text) : Names → Type 0 where
+  for_task : (task : Task) → IsTask words task → AreRead words (read_for task)
+  for_job : (job : Job) → IsJob words job → AreRead words (names_for job)
+
+-- the answer to words, by what is read of the files that they name
+pub data IsAnswer (words : List Text) (inputs : Names → Inputs) : Answer → Type 0 where
   misused : (fault : WordFault) → first_fault words ≡ Some fault
       → IsAnswer words inputs (refusal (Words fault) (word_fault_text fault))
   answered : (task : Task) (answer : Answer) → IsTask words task
-      → IsAnswerTo task (inputs task) answer → IsAnswer words inputs answer
+      → IsAnswerTo task (inputs (read_for task)) answer → IsAnswer words inputs answer
+  replied : (job : Job) (answer : Answer) → IsJob words job → IsReply job (inputs (names_for job)) answer
+      → IsAnswer words inputs answer

@@ -2,7 +2,13 @@ pub mod Tasks
 pub mod Statuses
 pub mod Said
 pub mod Texts
+pub mod Designs
 pub mod Told
+pub mod Jobs
+pub mod Grids
+pub mod Verdicts
+pub mod Samples
+pub mod Replies
 pub mod Answers
 pub mod Effects
 pub mod Runs

@@ -1,5 +1,6 @@
 -- How a run and its steps end, over what its desk had before.
 use Rattle.std.specs.Prelude.{◌≡◌, List, Option, ⊤}
+use Rattle.bx_cert.specs.Certs.{Certificate}
 use Rattle.bx_logic.specs.Nets.{Netlist}
 use Rattle.bx_desk.specs.Desk.{DeskState, Files, FailsToLoad, Says, SaysFront, IsFile}
 use Rattle.bx_lex.specs.declared.token.LexFault.{LexFault}
@@ -7,6 +8,7 @@ use Rattle.bx_lex.specs.declared.token.LexFault.TheVariants as lex
 use Rattle.bx_library.specs.Tiles.{Tiles}
 use Rattle.bx_library.specs.declared.fault.LibraryFault.{LibraryFault}
 use Rattle.bx_library.specs.declared.fault.LibraryFault.TheVariants as library
+use Rattle.bx_siqad.specs.Designs.{Drawing}
 use Rattle.bx_syntax.specs.declared.fault.ReadFault.{ReadFault}
 use Rattle.bx_syntax.specs.declared.fault.ReadFault.TheVariants as read
 use Rattle.bx_syntax.specs.Parts.{ModuleTree}
@@ -23,25 +25,56 @@ use Rattle.bx_engine.specs.declared.status.InputFault.TheVariants.{Lex, Read, Ne
 use Rattle.bx_engine.specs.declared.status.Status.{Status}
 use Rattle.bx_engine.specs.declared.status.Status.TheVariants as status
 use Rattle.bx_engine.specs.declared.status.Which.{Which}
-use Rattle.bx_engine.specs.declared.status.Which.TheVariants.{NetFile, LibFile, Output}
+use Rattle.bx_engine.specs.declared.status.Which.TheVariants.{NetFile, LibFile, DesignFile, CertFile, Output}
 use Rattle.bx_engine.specs.Answers.{Answer, IsAnswer}
 use Rattle.bx_engine.specs.Effects.{Gives, FailsToGive}
-use Rattle.bx_engine.specs.Tasks.{Task, Inputs, IsTask, AreTold}
+use Rattle.bx_engine.specs.Jobs.{Job, extracts, verifies, samples, IsJob}
+use Rattle.bx_engine.specs.Tasks.{Task, Names, Inputs, IsTask, AreTold}
+use Rattle.bx_engine.specs.Designs.{IsTakenDesign, IsTakenCert}
 use Rattle.bx_engine.specs.Texts.{IsGood, IsMapped, IsConstant, HasManyNodes, IsRefused, IsTaken, IsRefusedLibrary, IsTakenLibrary, network_of}
 
 -- ---- a run
 
 -- an answer that the words give and what is read for them, which is in the desk's files as far as it tells
 pub record HasAnswer (words : List Text) (told : Option Files) (answer : Answer) : Type 0 where
-  pub inputs : Task → Inputs
+  pub inputs : Names → Inputs
   pub are_told : AreTold told inputs
   pub is : IsAnswer words inputs answer
 
--- a file is come to that is read: the module's, and where that is taken, as far as the desk tells, the library's
+-- a file of a task is come to that is read: the module's, and where that is taken, as far as the desk tells, the
+-- library's
 abbrev pub IsReached : Option Files → Task → Which → Type 0
 IsReached told task NetFile = ⊤
 IsReached told task LibFile = (text : Text) × (m : ModuleTree) × IsFile told task.net text × IsTaken text m
 IsReached told task _ = ⊥
+
+-- the module, the library or the design of the file of this name is taken, as far as the desk tells
+abbrev pub HasTree : Option Files → Text → Type 0
+HasTree told name = (text : Text) × (m : ModuleTree) × IsFile told name text × IsTaken text m
+
+abbrev pub HasLibrary : Option Files → Text → Type 0
+HasLibrary told name = (text : Text) × (lib : Tiles) × IsFile told name text × IsTakenLibrary text lib
+
+abbrev pub HasDrawing : Option Files → Text → Type 0
+HasDrawing told name = (text : Text) × (drawing : Drawing) × IsFile told name text × IsTakenDesign text drawing
+
+-- a file of a job is come to: each where those before it are taken
+abbrev pub IsReachedFor : Option Files → Job → Which → Type 0
+IsReachedFor told (extracts lib design) LibFile = ⊤
+IsReachedFor told (extracts lib design) DesignFile = HasLibrary told lib
+IsReachedFor told (extracts lib design) _ = ⊥
+IsReachedFor told (verifies net lib design cert) NetFile = ⊤
+IsReachedFor told (verifies net lib design cert) LibFile = HasTree told net
+IsReachedFor told (verifies net lib design cert) DesignFile = HasTree told net × HasLibrary told lib
+IsReachedFor told (verifies net lib design cert) CertFile =
+    HasTree told net × HasLibrary told lib × HasDrawing told design
+IsReachedFor told (verifies net lib design cert) _ = ⊥
+IsReachedFor told (samples number gates extra) _ = ⊥
+
+-- a file of what the words ask for is come to
+pub data HasReached (words : List Text) (told : Option Files) (which : Which) : Type 0 where
+  by_task : (task : Task) → IsTask words task → IsReached told task which → HasReached words told which
+  by_job : (job : Job) → IsJob words job → IsReachedFor told job which → HasReached words told which
 
 -- The answer was given, or couldn't be; or a file couldn't be read; or memory was refused. Nothing else changed.
 pub data EndsRun (words : List Text) (old new : DeskState) : Status → Type 0 where
@@ -49,8 +82,8 @@ pub data EndsRun (words : List Text) (old new : DeskState) : Status → Type 0 w
       → EndsRun words old new answer.status
   ungiven : (answer : Answer) (which : Which) → HasAnswer words old.files answer
       → FailsToGive old new answer which → EndsRun words old new (status.WriteFault which)
-  unread : (task : Task) (which : Which) → IsTask words task → IsReached old.files task which
-      → FailsToLoad old new → EndsRun words old new (status.ReadFault which)
+  unread : (which : Which) → HasReached words old.files which → FailsToLoad old new
+      → EndsRun words old new (status.ReadFault which)
   no_memory : new ≡ old → EndsRun words old new status.NoMemory
 
 -- ---- its steps
@@ -127,6 +160,24 @@ abbrev pub LibraryEnds : Text → NoInput → Type 0
 LibraryEnds text (Fault fault) = IsRefusedLibrary text fault
 LibraryEnds text Unread = ⊥
 LibraryEnds text NoMemory = ⊤
+
+-- the file of this name has the text of this design, as far as the desk tells
+pub record ReadsDesign (told : Option Files) (name : Text) (drawing : Drawing) : Type 0 where
+  pub text : Text
+  pub taken : IsTakenDesign text drawing
+  pub file : IsFile told name text
+
+-- the file of this name has the text of this certificate, as far as the desk tells
+pub record ReadsCert (told : Option Files) (name : Text) (cert : Certificate) : Type 0 where
+  pub text : Text
+  pub taken : IsTakenCert text cert
+  pub file : IsFile told name text
+
+-- why nothing was made of what was read: it is refused so
+abbrev pub ReadingEnds : (InputFault → Type 0) → NoInput → Type 0
+ReadingEnds IsRefused (Fault fault) = IsRefused fault
+ReadingEnds IsRefused Unread = ⊥
+ReadingEnds IsRefused NoMemory = ⊤
 
 -- why nothing was made of the file: its text is refused so, or it couldn't be read
 abbrev pub FileEnds : (Text → InputFault → Type 0) → DeskState → DeskState → Text → NoInput → Type 0

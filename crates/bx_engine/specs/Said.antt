@@ -1,9 +1,14 @@
 -- What is said: the report of a search, or the line of a refusal.
 use Rattle.std.specs.Prelude.{ℕ, List, [], ◌∷◌, ◌++◌, codes, decimal, Option, Some, None, unwrap_or, ⊤}
+use Rattle.bx_cert.specs.declared.fault.CertFault.{CertFault}
+use Rattle.bx_cert.specs.declared.fault.CertFault.TheVariants as cert
 use Rattle.bx_cert.specs.declared.parts.CertLast.{CertLast}
 use Rattle.bx_cert.specs.declared.parts.CertLast.TheVariants as told
 use Rattle.bx_design.specs.declared.solution.LaidOut.{LaidOut}
+use Rattle.bx_dots.specs.declared.fault.CutFault.{CutFault}
+use Rattle.bx_dots.specs.declared.fault.CutFault.TheVariants as cut
 use Rattle.bx_forms.specs.Forms.{form_name}
+use Rattle.bx_grid.specs.Tiles.{x_of, y_of}
 use Rattle.bx_lex.specs.declared.token.LexFault.{LexFault}
 use Rattle.bx_lex.specs.declared.token.LexFault.TheVariants as lex
 use Rattle.bx_library.specs.declared.fault.Field.{Field}
@@ -22,13 +27,15 @@ use Rattle.bx_grid.specs.declared.ratio.Ratio.{Ratio}
 use Rattle.bx_network.specs.Networks.{Network}
 use Rattle.bx_lines.specs.Lines.{ended, text_of}
 use Rattle.bx_says.specs.Texts.{spaced, IsPlain}
+use Rattle.bx_siqad.specs.declared.fault.DesignFault.{DesignFault}
+use Rattle.bx_siqad.specs.declared.fault.DesignFault.TheVariants as design
 use Rattle.bx_says.specs.Ports.{ports_of}
 use Rattle.bx_says.specs.Reports.{head_of, head_lines, found_line, port_lines, row_lines}
 use Rattle.bx_words.specs.Options.{option_name}
 use Rattle.bx_words.specs.declared.faults.WordFault.{WordFault}
 use Rattle.bx_words.specs.declared.faults.WordFault.TheVariants as word
 use Rattle.bx_engine.specs.declared.status.InputFault.{InputFault}
-use Rattle.bx_engine.specs.declared.status.InputFault.TheVariants.{TooLong, Lex, Read, Net, Constant, Nodes, Library}
+use Rattle.bx_engine.specs.declared.status.InputFault.TheVariants.{TooLong, Lex, Read, Net, Constant, Nodes, Library, Design, Cut, Cert}
 use Rattle.bx_engine.specs.declared.status.Which.{Which}
 use Rattle.bx_engine.specs.declared.status.Which.TheVariants.{NetFile, LibFile, DesignFile, CertFile, Output}
 
@@ -150,6 +157,23 @@ library_fault_text (library.SameDots f g) =
     spaced (codes "same dots") (form_text f ∷ form_text g ∷ [])
 library_fault_text library.NoMemory = memory_text
 
+-- a line is told by its number, from 1
+abbrev pub design_fault_text : DesignFault → Text
+design_fault_text (design.BadDesign line) = spaced (codes "bad design") (decimal line ∷ [])
+design_fault_text design.NoMemory = memory_text
+
+abbrev pub cert_fault_text : CertFault → Text
+cert_fault_text (cert.BadCert line) = spaced (codes "bad cert") (decimal line ∷ [])
+cert_fault_text cert.NoMemory = memory_text
+
+-- a dot is told by where it stands, and a tile by its column and its row
+abbrev pub cut_fault_text : Ratio → CutFault → Text
+cut_fault_text ratio (cut.StrayDot dot) =
+    spaced (codes "stray") (decimal dot.n ∷ decimal dot.m ∷ decimal dot.l ∷ [])
+cut_fault_text ratio (cut.StrangeTile tile) =
+    spaced (codes "strange") (decimal (x_of ratio tile) ∷ decimal (y_of ratio tile) ∷ [])
+cut_fault_text ratio cut.NoMemory = memory_text
+
 abbrev pub input_fault_text : InputFault → Text
 input_fault_text (TooLong which) = spaced (codes "long") (which_text which ∷ [])
 input_fault_text (Lex fault) = lex_fault_text fault
@@ -158,6 +182,9 @@ input_fault_text (Net fault) = net_fault_text fault
 input_fault_text (Constant name) = spaced (codes "constant") (name ∷ [])
 input_fault_text (Nodes count) = spaced (codes "nodes") (decimal count ∷ [])
 input_fault_text (Library fault) = library_fault_text fault
+input_fault_text (Design fault) = design_fault_text fault
+input_fault_text (Cut fault ratio) = cut_fault_text ratio fault
+input_fault_text (Cert fault) = cert_fault_text fault
 
 unfoldable pub refusal_text : Text → Text
 refusal_text fault = ended (spaced (codes "refused") (fault ∷ []))

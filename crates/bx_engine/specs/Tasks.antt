@@ -1,5 +1,5 @@
 -- What the words ask a run to do, and what it has of the files that it reads.
-use Rattle.std.specs.Prelude.{◌≡◌, ℕ, List, Option, Some, None, IfSome, IsSome}
+use Rattle.std.specs.Prelude.{◌≡◌, ℕ, List, Option, Some, None, IfSome, IsSome, option_and_then}
 use Rattle.bx_desk.specs.Desk.{Files}
 use Rattle.bx_grid.specs.declared.ratio.Limits.{Limits}
 use Rattle.bx_words.specs.Verbs.{Text, verb_of}
@@ -29,17 +29,35 @@ pub record IsTask (words : List Text) (task : Task) : Type 0 where
   pub limits : task.limits ≡ limits_of (given_in (rows Design words))
   pub budget : task.budget ≡ budget_of (given_in (rows Design words))
 
--- what is read for a task: the text of its module's file and that of its library's, or none where there is no file
+-- the files that a command reads, by their names: that of a module, of a library, of a design and of a certificate
+pub record Names : Type 0 where
+  pub net : Option Text
+  pub lib : Option Text
+  pub design : Option Text
+  pub cert : Option Text
+
+-- those of a task
+abbrev pub read_for : Task → Names
+read_for task = record { net = Some task.net; lib = Some task.lib; design = None; cert = None }
+
+-- what is read of them: the text of each, or none where it isn't read or there is no file
 pub record Inputs : Type 0 where
   pub net : Option Text
   pub lib : Option Text
+  pub design : Option Text
+  pub cert : Option Text
 
 -- what these files are read as
-abbrev pub inputs_of : Files → Task → Inputs
-inputs_of files task = record { net = files task.net; lib = files task.lib }
+abbrev pub inputs_of : Files → Names → Inputs
+inputs_of files names = record {
+  net = option_and_then files names.net;
+  lib = option_and_then files names.lib;
+  design = option_and_then files names.design;
+  cert = option_and_then files names.cert;
+}
 
 -- that is what is read, as far as the desk tells
-abbrev pub AreTold : Option Files → (Task → Inputs) → Type 0
+abbrev pub AreTold : Option Files → (Names → Inputs) → Type 0
 AreTold told inputs = IfSome told (λ files. inputs ≡ inputs_of files)
 
 -- the file is there, as far as the desk tells

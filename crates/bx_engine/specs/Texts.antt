@@ -17,7 +17,7 @@ use Rattle.bx_network.specs.Networks.{Network}
 use Rattle.bx_map.specs.Maps.{first_constant, mapping_of, node_count}
 use Rattle.bx_engine.specs.declared.limits.TheConstants.{MODULE_BYTES, LIBRARY_BYTES, MODULE_NODES}
 use Rattle.bx_engine.specs.declared.status.InputFault.{InputFault}
-use Rattle.bx_engine.specs.declared.status.InputFault.TheVariants.{TooLong, Lex, Read, Net, Constant, Nodes, Library}
+use Rattle.bx_engine.specs.declared.status.InputFault.TheVariants.{TooLong, Lex, Read, Net, Constant, Nodes, Library, Design, Cut, Cert}
 use Rattle.bx_engine.specs.declared.status.Which.TheVariants.{NetFile, LibFile}
 use Rattle.bx_engine.specs.Tasks.{Inputs}
 
@@ -71,6 +71,9 @@ IsRefused text (Net fault) = IsShort text × ((m : ModuleTree) × IsText text m 
 IsRefused text (Constant name) = (m : ModuleTree) × IsGood text m × IsConstant (net_of m) name
 IsRefused text (Nodes count) = (m : ModuleTree) × IsGood text m × HasManyNodes (net_of m) count
 IsRefused text (Library fault) = ⊥
+IsRefused text (Design fault) = ⊥
+IsRefused text (Cut fault ratio) = ⊥
+IsRefused text (Cert fault) = ⊥
 
 -- the text is taken: that of an accepted module which is mapped
 pub record IsTaken (text : Text) (m : ModuleTree) : Type 0 where

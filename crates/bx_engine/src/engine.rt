@@ -8,28 +8,45 @@
 ghost use Rattle.std.specs.Prelude.{◌≡◌, ◌≢◌, ◌⊎◌, ℕ, All, Option, Some, None, IsSomeAnd};
 ghost use Rattle.bx_cert.specs.Certs.{Certificate};
 ghost use Rattle.bx_desk.specs.Desk.{Files, FailsToLoad, Rose, Says};
+ghost use Rattle.bx_design.specs.Solutions.{IsSolution};
 ghost use Rattle.bx_design.specs.declared.solution.LaidOut.{LaidOut};
+ghost use Rattle.bx_dots.specs.Permits.{permit_of};
 ghost use Rattle.bx_grid.specs.declared.ratio.Ratio.{Ratio};
+ghost use Rattle.bx_layout.specs.Grids.{FormGrid};
 ghost use Rattle.bx_library.specs.Tiles.{Tiles};
 ghost use Rattle.bx_syntax.specs.Parts.{ModuleTree};
+ghost use Rattle.bx_verify.specs.Answers.{IsVerdict};
+ghost use Rattle.bx_verify.specs.Failing.{NoneFails, IsFirstToFail};
+ghost use Rattle.bx_verify.specs.Meaning.{IsMinimal};
+ghost use Rattle.bx_verify.specs.declared.verdict.Part.{Part};
+ghost use Rattle.bx_verify.specs.declared.verdict.Verdict.{Verdict};
+ghost use Rattle.bx_verilog.specs.Elaboration.{net_of};
 ghost use Rattle.bx_verilog.specs.Formulas.{Text};
 ghost use Rattle.bx_words.specs.Verbs.{texts};
 ghost use Rattle.bx_words.specs.Words.{first_fault};
 ghost use Rattle.bx_engine.specs.Answers.{Answer, IsAnswer, IsStatusOf, Solves, search_answer};
 ghost use Rattle.bx_engine.specs.Effects.{Gives, HasGivenSome, FailsToGive, NoneFell, NoneRose, RoseWriting, file_at};
-ghost use Rattle.bx_engine.specs.Runs.{HasAnswer, EndsRun, IsReached, ReadsModule, ReadsLibrary};
+ghost use Rattle.bx_engine.specs.Grids.{TellsGrid};
+ghost use Rattle.bx_engine.specs.Jobs.{Job, samples, IsJob};
+ghost use Rattle.bx_engine.specs.Replies.{IsUnextracted, IsExtracted, IsUnjudged};
+ghost use Rattle.bx_engine.specs.Runs.{HasAnswer, EndsRun, HasReached, ReadsModule, ReadsLibrary};
 ghost use Rattle.bx_engine.specs.Said.{refusal_text, word_fault_text, input_fault_text};
+ghost use Rattle.bx_engine.specs.Samples.{sample_inputs, sample_limits, summary_text};
 ghost use Rattle.bx_engine.specs.Statuses.{IsSettled, HasSearched, status_of};
 ghost use Rattle.bx_engine.specs.Steps.{HasPlaces, EndsGiving, EndsDesign, EndsCommand, task_of};
 ghost use Rattle.bx_engine.specs.Tasks.{Task, IsTask, IsThere, inputs_of};
-ghost use Rattle.bx_engine.specs.Texts.{AreRefused, AreTaken};
-ghost use Rattle.bx_engine.specs.Told.{OfTask, OfModule};
+ghost use Rattle.bx_engine.specs.Texts.{AreRefused, AreTaken, network_of};
+ghost use Rattle.bx_engine.specs.Told.{OfTask, OfModule, OfExtraction, OfJudgement, OfHeld};
+ghost use Rattle.bx_engine.specs.Verdicts.{status_for, verdict_text};
 ghost use Rattle.bx_engine.specs.Worth.{IsFound, IsLeftUndecided, IsNoneWithin};
 
+use crate::extract::serve_extract;
 use crate::load::{Module, NoInput, load_library, load_module};
 use crate::plan::{Plan, make_plan};
+use crate::sample::serve_sample;
 use crate::say::{refuse, refuse_words, report};
 use crate::status::{InputFault, Status, Which};
+use crate::verify::serve_verify;
 use crate::write::write_files;
 use bx_desk::{Desk, Gate};
 use bx_library::Library;
@@ -40,8 +57,10 @@ use std::thread::Threads;
 
 /// Runs the command of the words: `design NET LIB DESIGN CERT` finds the layout of least area and then width of the
 /// module in the file NET, of forms of the library in LIB; writes its dots to DESIGN and the certificate that no
-/// earlier ratio has a layout to CERT; and says the report. It waits for nobody. All the memory that it takes is taken
-/// before DESIGN is started. What it does is the same for every number of workers.
+/// earlier ratio has a layout to CERT; and says the report. `verify NET LIB DESIGN CERT` reads all four, and says
+/// whether they are right. `extract LIB DESIGN` says the forms that a design is made of, and `sample NUMBER GATES EXTRA`
+/// what comes of a module that is made from numbers. It waits for nobody. All the memory that it takes is taken before
+/// DESIGN is started. What it does is the same for every number of workers.
 pub fn run<T: Threads + Sync, D: Desk, G: Gate + Sync>(
     threads: &T,
     alloc: Global,
@@ -107,6 +126,57 @@ pub fn run<T: Threads + Sync, D: Desk, G: Gate + Sync>(
         (λ task m lib. HasGivenSome (D.state desk.old) (D.state desk.new) task
         (λ design cert said. (design ≡ None) × IsNoneWithin task m lib cert said)) }
 
+    // `extract` is refused for what is first wrong with the library, the design or the cut, and for nothing else. Else
+    // it is done: the form grid that the dots of the design are cut into is said, and whether it is sound.
+    ensures unextracted_only { (fault : InputFault) → result ≡ Status.Refused fault
+        → OfExtraction (texts words.now) (D.state desk.old) (λ inputs. IsUnextracted inputs fault) }
+    ensures unextracted { IsSettled result → OfExtraction (texts words.now) (D.state desk.old)
+        (λ inputs. (fault : InputFault) → IsUnextracted inputs fault
+        → result ≡ Status.Refused fault) }
+    ensures extracted_only { result ≡ Status.Done
+        → OfExtraction (texts words.now) (D.state desk.old)
+        (λ inputs. (grid : FormGrid) × IsExtracted inputs grid) }
+    ensures extracted { IsSettled result → OfExtraction (texts words.now) (D.state desk.old)
+        (λ inputs. (grid : FormGrid) → IsExtracted inputs grid → (result ≡ Status.Done)
+        × ((said : Text) × TellsGrid grid said × Says (D.state desk.old) (D.state desk.new) said)) }
+
+    // `verify` is refused for what is first wrong with the module, the library, the design or the certificate, and for
+    // nothing else. Else the verdict is said: the first part that fails is wrong, or none fails. Where none does, the
+    // found ratio is minimal, whoever made the files: the design computes the module, and no earlier ratio within the
+    // certificate's limits has a legal layout of forms of the library.
+    ensures unjudged_only { (fault : InputFault) → result ≡ Status.Refused fault
+        → OfJudgement (texts words.now) (D.state desk.old) (λ inputs. IsUnjudged inputs fault) }
+    ensures unjudged { IsSettled result → OfJudgement (texts words.now) (D.state desk.old)
+        (λ inputs. (fault : InputFault) → IsUnjudged inputs fault → result ≡ Status.Refused fault) }
+    ensures judged { IsSettled result → OfHeld (texts words.now) (D.state desk.old)
+        (λ m lib drawing cert. (verdict : Verdict)
+        × IsVerdict (network_of m) lib drawing cert verdict × (result ≡ status_for verdict)
+        × Says (D.state desk.old) (D.state desk.new) (verdict_text cert verdict)) }
+    ensures minimal { (ratio : Ratio) → result ≡ Status.Minimal ratio
+        → OfHeld (texts words.now) (D.state desk.old)
+        (λ m lib drawing cert. NoneFails (network_of m) lib drawing cert
+        × IsMinimal (net_of m) lib drawing cert ratio) }
+    ensures wrong { (part : Part) (k : ℕ) → result ≡ Status.Wrong part k
+        → OfHeld (texts words.now) (D.state desk.old)
+        (λ m lib drawing cert. IsFirstToFail (network_of m) lib drawing cert part k) }
+
+    // `sample` lays out the module that its three numbers make by the sample library, as `design` would within the
+    // limits and the budget of samples: the status is that of the solution, and its summary is said. Where a text is
+    // refused, so is the sample.
+    ensures unsampled_only { (fault : InputFault) → result ≡ Status.Refused fault
+        → (number gates extra : ℕ) → IsJob (texts words.now) (samples number gates extra)
+        → AreRefused (sample_inputs number gates extra) fault }
+    ensures unsampled { IsSettled result → (number gates extra : ℕ)
+        → IsJob (texts words.now) (samples number gates extra) → (fault : InputFault)
+        → AreRefused (sample_inputs number gates extra) fault → result ≡ Status.Refused fault }
+    ensures sampled { IsSettled result → (number gates extra : ℕ)
+        → IsJob (texts words.now) (samples number gates extra) → (m : ModuleTree) (lib : Tiles)
+        → AreTaken (sample_inputs number gates extra) m lib
+        → (cert : Certificate) (found : Option LaidOut)
+        → IsSolution (network_of m) (permit_of lib) sample_limits 2000 cert found
+        → (result ≡ status_of cert.last) × Says (D.state desk.old) (D.state desk.new)
+        (summary_text number gates extra (network_of m) cert) }
+
     // A status that says anything of a file comes only where the file is there, and where nothing failed.
     ensures there { IsSettled result → (task : Task) → IsTask (texts words.now) task
         → IsThere (D.state desk.old).files task.net }
@@ -125,8 +195,7 @@ pub fn run<T: Threads + Sync, D: Desk, G: Gate + Sync>(
     ensures complete { NoneRose (D.state desk.old).faults (D.state desk.new).faults
         → (result ≡ Status.NoMemory) ⊎ IsSettled result }
     ensures read_fault { (which : Which) → result ≡ Status.ReadFault which
-        → (task : Task) × IsTask (texts words.now) task
-        × IsReached (D.state desk.old).files task which
+        → HasReached (texts words.now) (D.state desk.old).files which
         × FailsToLoad (D.state desk.old) (D.state desk.new) }
     ensures no_memory_stays { result ≡ Status.NoMemory → D.state desk.new ≡ D.state desk.old }
 
@@ -138,10 +207,12 @@ pub fn run<T: Threads + Sync, D: Desk, G: Gate + Sync>(
         × FailsToGive (D.state desk.old) (D.state desk.new) answer which }
 
     // Whatever comes, no count falls, and every file stays but those that the answer writes: at most those of design
-    // and certificate, and that of the design only where a layout was found.
+    // and certificate of `design`, and that of the design only where a layout was found.
     ensures none_fell { NoneFell (D.state desk.old).faults (D.state desk.new).faults }
     ensures others_stay { (name : Text)
         → ((task : Task) → IsTask (texts words.now) task → (task.design ≢ name) × (task.cert ≢ name))
+        → file_at (D.state desk.new).files name ≡ file_at (D.state desk.old).files name }
+    ensures jobs_stay { (job : Job) → IsJob (texts words.now) job → (name : Text)
         → file_at (D.state desk.new).files name ≡ file_at (D.state desk.old).files name }
     ensures unwritten_stay { (files : Files) → (D.state desk.old).files ≡ Some files
         → (answer : Answer) → IsAnswer (texts words.now) (inputs_of files) answer → (name : Text)
@@ -180,6 +251,9 @@ fn serve_command<T: Threads + Sync, D: Desk, G: Gate + Sync>(
 {
     match command {
         Command::Design(command) => serve_design(threads, alloc, command, desk, gate),
+        Command::Verify(command) => serve_verify(threads, alloc, command, desk),
+        Command::Extract(command) => serve_extract(alloc, command, desk),
+        Command::Sample(command) => serve_sample(threads, alloc, command, desk, gate),
     }
 }
 

@@ -8,17 +8,19 @@ ghost use Rattle.bx_desk.specs.Words.{word_text};
 ghost use Rattle.bx_words.specs.Options.{option_name};
 ghost use Rattle.bx_engine.specs.Said.{refusal_text, input_fault_text, word_fault_text, memory_text, which_text};
 ghost use Rattle.bx_engine.specs.Said.{lex_fault_text, read_fault_text, net_fault_text, construct_text};
-ghost use Rattle.bx_engine.specs.Said.{library_fault_text, field_text, form_text};
+
+mod design;
+mod library;
 
 use crate::status::{InputFault, Which};
 use bx_desk::{Desk, Failed, Piece};
-use bx_forms::Form;
 use bx_lex::LexFault;
-use bx_library::{Field, LibraryFault};
 use bx_logic::Name;
 use bx_says::{Word, put_spaced, put_word, put_words};
 use bx_verilog::{Construct, NetFault, ReadFault};
 use bx_words::{Opt, WordFault};
+use design::{put_cert_fault, put_cut_fault, put_design_fault};
+use library::put_library_fault;
 
 /// Puts out the line of a refusal, which names these words.
 pub(crate) fn put_refusal<D: Desk>(
@@ -91,6 +93,9 @@ pub(crate) fn put_fault<D: Desk>(
         InputFault::Constant(name) => put_named(b"constant", name, piece, desk),
         InputFault::Nodes(count) => put_refusal(b"nodes", &[Word::Number(*count)], piece, desk),
         InputFault::Library(fault) => put_library_fault(fault, piece, desk),
+        InputFault::Design(fault) => put_design_fault(*fault, piece, desk),
+        InputFault::Cut(fault, ratio) => put_cut_fault(*fault, *ratio, piece, desk),
+        InputFault::Cert(fault) => put_cert_fault(*fault, piece, desk),
     }
 }
 
@@ -101,9 +106,9 @@ fn which_word(which: Which) -> &'static [u8]
     match which {
         Which::NetFile => b"net",
         Which::LibFile => b"lib",
-        // These never come: only module and library are read.
         Which::DesignFile => b"design",
         Which::CertFile => b"cert",
+        // This never comes: what is said isn't read.
         Which::Output => b"output",
     }
 }
@@ -192,99 +197,8 @@ fn put_net_fault<D: Desk>(fault: &NetFault, piece: &mut Piece, desk: &mut D) -> 
     }
 }
 
-// Puts out the line of the refusal of a text that is no library.
-fn put_library_fault<D: Desk>(
-    fault: &LibraryFault,
-    piece: &mut Piece,
-    desk: &mut D,
-) -> Result<(), Failed>
-    requires { CanPut (target_of piece.old) (D.state desk.old) }
-    ensures { PutsOut (D.state desk.old) (D.state desk.new) result piece.old piece.new
-        (refusal_text (library_fault_text fault.now)) }
-{
-    match fault {
-        LibraryFault::NotJson => put_refusal(b"json", &[], piece, desk),
-        LibraryFault::Shape(field) => put_field(b"shape", *field, piece, desk),
-        LibraryFault::BadSize(field) => put_field(b"size", *field, piece, desk),
-        LibraryFault::UnknownForm(name) => put_named(b"unknown form", name, piece, desk),
-        LibraryFault::NoDots(form) => put_form(b"no dots", *form, piece, desk),
-        LibraryFault::TooManyDots(form) => put_form(b"many dots", *form, piece, desk),
-        LibraryFault::DotOutside(form, k) => put_dot(b"dot outside", *form, *k, piece, desk),
-        LibraryFault::SameDot(form, k) => put_dot(b"dot twice", *form, *k, piece, desk),
-        LibraryFault::SameDots(f, g) => {
-            let words = [Word::Text(form_word(*f)), Word::Text(form_word(*g))];
-            put_refusal(b"same dots", &words, piece, desk)
-        }
-        LibraryFault::NoMemory => put_memory(piece, desk),
-    }
-}
-
-// A form, as a word.
-fn form_word(form: Form) -> &'static [u8]
-    ensures { result.now ≡ form_text form }
-{
-    form.name().as_bytes()
-}
-
-// A field of a library, as a word.
-fn field_word(field: Field) -> &'static [u8]
-    ensures { result.now ≡ field_text field }
-{
-    match field {
-        Field::Name => b"name",
-        Field::Width => b"width",
-        Field::Height => b"height",
-        Field::Forms => b"forms",
-        Field::Of(form) => form_word(form),
-    }
-}
-
-// Puts out the line of a refusal that names a field.
-fn put_field<D: Desk>(
-    fault: &[u8],
-    field: Field,
-    piece: &mut Piece,
-    desk: &mut D,
-) -> Result<(), Failed>
-    requires { CanPut (target_of piece.old) (D.state desk.old) }
-    ensures { PutsOut (D.state desk.old) (D.state desk.new) result piece.old piece.new
-        (refusal_text (spaced fault.now (field_text field ∷ []))) }
-{
-    put_refusal(fault, &[Word::Text(field_word(field))], piece, desk)
-}
-
-// Puts out the line of a refusal that names a form.
-fn put_form<D: Desk>(
-    fault: &[u8],
-    form: Form,
-    piece: &mut Piece,
-    desk: &mut D,
-) -> Result<(), Failed>
-    requires { CanPut (target_of piece.old) (D.state desk.old) }
-    ensures { PutsOut (D.state desk.old) (D.state desk.new) result piece.old piece.new
-        (refusal_text (spaced fault.now (form_text form ∷ []))) }
-{
-    put_refusal(fault, &[Word::Text(form_word(form))], piece, desk)
-}
-
-// Puts out the line of a refusal that names a dot by its form and its number.
-fn put_dot<D: Desk>(
-    fault: &[u8],
-    form: Form,
-    k: u32,
-    piece: &mut Piece,
-    desk: &mut D,
-) -> Result<(), Failed>
-    requires { CanPut (target_of piece.old) (D.state desk.old) }
-    ensures { PutsOut (D.state desk.old) (D.state desk.new) result piece.old piece.new
-        (refusal_text (spaced fault.now (form_text form ∷ decimal k ∷ []))) }
-{
-    let words = [Word::Text(form_word(form)), Word::Number(u64::from(k))];
-    put_refusal(fault, &words, piece, desk)
-}
-
-// Puts out the line of a refusal that names a name.
-fn put_named<D: Desk>(
+/// Puts out the line of a refusal that names a name.
+pub(crate) fn put_named<D: Desk>(
     fault: &[u8],
     name: &Name,
     piece: &mut Piece,
@@ -297,9 +211,9 @@ fn put_named<D: Desk>(
     put_refusal(fault, &[Word::Text(name.as_slice())], piece, desk)
 }
 
-// Puts out a line for want of memory. It never comes: want of memory is kept apart from the faults of an
-// input, and says nothing. There is a text only since the readers below name it among their faults.
-fn put_memory<D: Desk>(piece: &mut Piece, desk: &mut D) -> Result<(), Failed>
+/// Puts out a line for want of memory. It never comes: want of memory is kept apart from the faults of an
+/// input, and says nothing. There is a text only since the readers below name it among their faults.
+pub(crate) fn put_memory<D: Desk>(piece: &mut Piece, desk: &mut D) -> Result<(), Failed>
     requires { CanPut (target_of piece.old) (D.state desk.old) }
     ensures { PutsOut (D.state desk.old) (D.state desk.new) result piece.old piece.new
         (refusal_text memory_text) }

@@ -32,8 +32,12 @@ pub(crate) fn put_report<D: Desk>(
     put_found(source, &solution.found, piece, desk)
 }
 
-// Puts out the line of how the search ended.
-fn put_last<D: Desk>(last: &CertLast, piece: &mut Piece, desk: &mut D) -> Result<(), Failed>
+/// Puts out the line of how the search ended.
+pub(crate) fn put_last<D: Desk>(
+    last: &CertLast,
+    piece: &mut Piece,
+    desk: &mut D,
+) -> Result<(), Failed>
     requires { CanPut (target_of piece.old) (D.state desk.old) }
     ensures { PutsOut (D.state desk.old) (D.state desk.new) result piece.old piece.new
         (ended (last_line last.now)) }

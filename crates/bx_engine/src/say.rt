@@ -30,8 +30,8 @@ pub(crate) fn report<D: Desk>(source: &Module, solution: &Solution, desk: &mut D
     }
 }
 
-// The status of how a search ended.
-fn status(cert: &Cert) -> Status
+/// The status of how a search ended.
+pub(crate) fn status(cert: &Cert) -> Status
     ensures { result ≡ status_of cert.now.last }
 {
     match cert.last() {
@@ -42,7 +42,7 @@ fn status(cert: &Cert) -> Status
 }
 
 /// Says the refusal of an input.
-pub(crate) fn refuse<D: Desk>(desk: &mut D, fault: InputFault) -> Status
+pub fn refuse<D: Desk>(desk: &mut D, fault: InputFault) -> Status
     ensures { EndsSaying (D.state desk.old) (D.state desk.new) (Status.Refused fault)
         (refusal_text (input_fault_text fault)) result }
 {
@@ -65,8 +65,8 @@ pub(crate) fn refuse_words<D: Desk>(desk: &mut D, fault: WordFault) -> Status
     }
 }
 
-// Hands on what a piece holds, and ends with the status if that is said.
-fn end_saying<D: Desk>(mut piece: Piece, desk: &mut D, status: Status) -> Status
+/// Hands on what a piece holds, and ends with the status if that is said.
+pub(crate) fn end_saying<D: Desk>(mut piece: Piece, desk: &mut D, status: Status) -> Status
     requires { IsToSay piece }
     ensures { EndsSaying (D.state desk.old) (D.state desk.new) status (pending piece) result }
 {

@@ -2,10 +2,14 @@
 //! each comes is said by the clauses of `run`; what is said beside it is the texts' concern.
 ghost use Rattle.std.specs.Prelude.{◌≡◌};
 
+use bx_cert::CertFault;
+use bx_dots::CutFault;
 use bx_grid::Ratio;
 use bx_lex::LexFault;
 use bx_library::LibraryFault;
 use bx_logic::Name;
+use bx_siqad::DesignFault;
+use bx_verify::Part;
 use bx_verilog::{NetFault, ReadFault};
 use bx_words::WordFault;
 
@@ -21,6 +25,12 @@ pub enum Status {
     NoneWithin,
     /// The input was refused, and the refusal was said.
     Refused(InputFault),
+    /// The design and the certificate are right: no ratio before this one has a layout. This was said.
+    Minimal(Ratio),
+    /// This part of design and certificate is the first that fails, at this number. This was said.
+    Wrong(Part, u64),
+    /// All that was asked for was said.
+    Done,
     /// A file could not be read. Nothing was said.
     ReadFault(Which),
     /// Something could not be written or said. A front of it may have been.
@@ -32,8 +42,8 @@ pub enum Status {
 }
 
 /// What is wrong with an input. The module is read first, in this order, and where nothing is wrong with it
-/// the library; the first that is wrong is answered. Want of memory is no fault of an input, so no fault of a
-/// lower reader that stands here is that.
+/// the library, and then design and certificate, each where the command reads it; the first that is wrong is
+/// answered. Want of memory is no fault of an input, so no fault of a lower reader that stands here is that.
 #[derive(Drop)]
 pub enum InputFault {
     /// The file is longer than is read.
@@ -50,6 +60,12 @@ pub enum InputFault {
     Nodes(u64),
     /// The text is no library of forms, as `LibraryFault` says.
     Library(LibraryFault),
+    /// The text is no design, as `DesignFault` says.
+    Design(DesignFault),
+    /// The design's dots are cut into no form grid of these sides by the library, as `CutFault` says.
+    Cut(CutFault, Ratio),
+    /// The text is no certificate, as `CertFault` says.
+    Cert(CertFault),
 }
 
 /// A file or output that a fault is about.
@@ -59,9 +75,9 @@ pub enum Which {
     NetFile,
     /// The file of the library, which the words name.
     LibFile,
-    /// The file that the design is written to, which the words name.
+    /// The file that the design is written to or read from, which the words name.
     DesignFile,
-    /// The file that the certificate is written to, which the words name.
+    /// The file that the certificate is written to or read from, which the words name.
     CertFile,
     /// What the run says.
     Output,
@@ -70,19 +86,20 @@ pub enum Which {
 impl Status {
     ghost use Rattle.bx_engine.specs.Statuses.{exit_status};
 
-    /// The exit status of the program: 0 found, 1 refused, 2 undecided, 3 none within the
-    /// limits, 4 read or write fault, 5 no memory, 6 words.
+    /// The exit status of the program: 0 found, minimal or done, 1 refused, 2 undecided, 3 none within the
+    /// limits, 4 read or write fault, 5 no memory, 6 words, 7 wrong.
     pub fn code(&self) -> u8
         ensures { result ≡ exit_status self.now }
     {
         match self {
-            Status::Found(_) => 0,
+            Status::Found(_) | Status::Minimal(_) | Status::Done => 0,
             Status::Refused(_) => 1,
             Status::Undecided(_, _) => 2,
             Status::NoneWithin => 3,
             Status::ReadFault(_) | Status::WriteFault(_) => 4,
             Status::NoMemory => 5,
             Status::Words(_) => 6,
+            Status::Wrong(_, _) => 7,
         }
     }
 }

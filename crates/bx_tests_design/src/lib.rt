@@ -12,6 +12,8 @@ mod design;
 #[cfg(test)]
 mod engine;
 #[cfg(test)]
+mod failing;
+#[cfg(test)]
 mod gate;
 #[cfg(test)]
 mod libraries;

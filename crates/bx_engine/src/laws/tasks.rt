@@ -4,7 +4,7 @@ ghost use Rattle.bx_grid.specs.Orders.{AreLimits};
 ghost use Rattle.bx_verilog.specs.Formulas.{Text};
 ghost use Rattle.bx_words.specs.Workers.{DifferInWorkers};
 ghost use Rattle.bx_engine.specs.Answers.{Answer, IsAnswer};
-ghost use Rattle.bx_engine.specs.Tasks.{Task, Inputs, IsTask};
+ghost use Rattle.bx_engine.specs.Tasks.{Task, Names, Inputs, IsTask};
 
 /// Words ask for one task at most.
 pub fn words_ask_for_one_task()
@@ -16,7 +16,7 @@ pub fn words_ask_for_one_task()
 pub fn all_numbers_of_workers_ask_for_one_task()
     ensures task { (one other : List Text) (task : Task) → DifferInWorkers one other
         → IsTask one task → IsTask other task }
-    ensures answer { (one other : List Text) (inputs : Task → Inputs) (answer : Answer)
+    ensures answer { (one other : List Text) (inputs : Names → Inputs) (answer : Answer)
         → DifferInWorkers one other → IsAnswer one inputs answer → IsAnswer other inputs answer }
 {}
 

@@ -1,5 +1,6 @@
 use Rattle.bx_words.specs.Verbs.{texts}
 use Rattle.bx_engine.proofs.Clauses.{answered, exact, words_only, words_all, words_said, refused_only, refused, refused_said, searched_only, taken_solved, searched, found, undecided, none_within, there, library_there, settled_no_fault, read_fault, read_rose, write_rose, complete, no_memory_stays, write_fault, none_fell, others_stay, unwritten_stay}
+use Rattle.bx_engine.proofs.JobClauses.{unextracted_only, unextracted, extracted_only, extracted, unjudged_only, unjudged, judged, minimal, wrong, jobs_stay, unsampled_only, unsampled, sampled}
 use Rattle.bx_engine.proofs.engine.run.Goals as goal
 
 pub returns-clause-answered : goal.returns-clause-answered
@@ -79,3 +80,42 @@ returns-clause-others_stay g c = others_stay (texts c.args.words.now) (g.D.Desk.
 
 pub returns-clause-unwritten_stay : goal.returns-clause-unwritten_stay
 returns-clause-unwritten_stay g c = unwritten_stay (texts c.args.words.now) (g.D.Desk.state c.args.desk.now) (g.D.Desk.state c.serve.new.desk) c.serve.result c.serve.ensures
+
+pub returns-clause-unextracted_only : goal.returns-clause-unextracted_only
+returns-clause-unextracted_only g c = λ fault e lib design files asks told. unextracted_only (texts c.args.words.now) (g.D.Desk.state c.args.desk.now) (g.D.Desk.state c.serve.new.desk) c.serve.result c.serve.ensures lib design files asks told fault e
+
+pub returns-clause-unextracted : goal.returns-clause-unextracted
+returns-clause-unextracted g c = λ settled lib design files asks told fault h. unextracted (texts c.args.words.now) (g.D.Desk.state c.args.desk.now) (g.D.Desk.state c.serve.new.desk) c.serve.result c.serve.ensures lib design files asks told settled fault h
+
+pub returns-clause-extracted_only : goal.returns-clause-extracted_only
+returns-clause-extracted_only g c = λ e lib design files asks told. extracted_only (texts c.args.words.now) (g.D.Desk.state c.args.desk.now) (g.D.Desk.state c.serve.new.desk) c.serve.result c.serve.ensures lib design files asks told e
+
+pub returns-clause-extracted : goal.returns-clause-extracted
+returns-clause-extracted g c = λ settled lib design files asks told grid is. extracted (texts c.args.words.now) (g.D.Desk.state c.args.desk.now) (g.D.Desk.state c.serve.new.desk) c.serve.result c.serve.ensures lib design files asks told settled grid is
+
+pub returns-clause-unjudged_only : goal.returns-clause-unjudged_only
+returns-clause-unjudged_only g c = λ fault e net lib design cert files asks told. unjudged_only (texts c.args.words.now) (g.D.Desk.state c.args.desk.now) (g.D.Desk.state c.serve.new.desk) c.serve.result c.serve.ensures net lib design cert files asks told fault e
+
+pub returns-clause-unjudged : goal.returns-clause-unjudged
+returns-clause-unjudged g c = λ settled net lib design cert files asks told fault h. unjudged (texts c.args.words.now) (g.D.Desk.state c.args.desk.now) (g.D.Desk.state c.serve.new.desk) c.serve.result c.serve.ensures net lib design cert files asks told settled fault h
+
+pub returns-clause-judged : goal.returns-clause-judged
+returns-clause-judged g c = λ settled net lib design cert files asks told m book drawing b held. judged (texts c.args.words.now) (g.D.Desk.state c.args.desk.now) (g.D.Desk.state c.serve.new.desk) c.serve.result c.serve.ensures net lib design cert files asks told m book drawing b held settled
+
+pub returns-clause-minimal : goal.returns-clause-minimal
+returns-clause-minimal g c = λ ratio e net lib design cert files asks told m book drawing b held. minimal (texts c.args.words.now) (g.D.Desk.state c.args.desk.now) (g.D.Desk.state c.serve.new.desk) c.serve.result c.serve.ensures net lib design cert files asks told m book drawing b held ratio e
+
+pub returns-clause-wrong : goal.returns-clause-wrong
+returns-clause-wrong g c = λ part k e net lib design cert files asks told m book drawing b held. wrong (texts c.args.words.now) (g.D.Desk.state c.args.desk.now) (g.D.Desk.state c.serve.new.desk) c.serve.result c.serve.ensures net lib design cert files asks told m book drawing b held part k e
+
+pub returns-clause-jobs_stay : goal.returns-clause-jobs_stay
+returns-clause-jobs_stay g c = jobs_stay (texts c.args.words.now) (g.D.Desk.state c.args.desk.now) (g.D.Desk.state c.serve.new.desk) c.serve.result c.serve.ensures
+
+pub returns-clause-unsampled_only : goal.returns-clause-unsampled_only
+returns-clause-unsampled_only g c = λ fault e number gates extra asks. unsampled_only (texts c.args.words.now) (g.D.Desk.state c.args.desk.now) (g.D.Desk.state c.serve.new.desk) c.serve.result c.serve.ensures number gates extra asks fault e
+
+pub returns-clause-unsampled : goal.returns-clause-unsampled
+returns-clause-unsampled g c = λ settled number gates extra asks fault h. unsampled (texts c.args.words.now) (g.D.Desk.state c.args.desk.now) (g.D.Desk.state c.serve.new.desk) c.serve.result c.serve.ensures number gates extra asks settled fault h
+
+pub returns-clause-sampled : goal.returns-clause-sampled
+returns-clause-sampled g c = λ settled number gates extra asks m lib taken cert found solves. sampled (texts c.args.words.now) (g.D.Desk.state c.args.desk.now) (g.D.Desk.state c.serve.new.desk) c.serve.result c.serve.ensures number gates extra asks m lib taken cert found solves settled

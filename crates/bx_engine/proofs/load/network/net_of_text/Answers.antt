@@ -1,6 +1,6 @@
 use Rattle.bx_engine.specs.Texts.{IsText}
 use Rattle.bx_engine.proofs.Networks.{ends_so, read_ends, net_ends}
-use Rattle.bx_engine.proofs.load.net_of_text.Goals as goal
+use Rattle.bx_engine.proofs.load.network.net_of_text.Goals as goal
 
 pub returns-in_err-module-clause-err : goal.returns-in_err-module-clause-err
 returns-in_err-module-clause-err c =

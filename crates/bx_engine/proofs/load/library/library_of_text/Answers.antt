@@ -1,5 +1,5 @@
 use Rattle.bx_engine.proofs.Networks.{ends_library, library_ends}
-use Rattle.bx_engine.proofs.load.library_of_text.Goals as goal
+use Rattle.bx_engine.proofs.load.library.library_of_text.Goals as goal
 
 pub returns-in_err-library-clause-err : goal.returns-in_err-library-clause-err
 returns-in_err-library-clause-err c =

@@ -4,8 +4,8 @@
 # program's name has the stamp of its sources, so both come into being by one rename, and no call can see one
 # without the other.
 
-# The crates of the two programs.
-PROGRAMS=(bestagon_cli bestagon_sat)
+# The crates of the programs: `bestagon`, the same telling how far it is, and the solver.
+PROGRAMS=(bestagon_cli bestagon_progress bestagon_sat)
 
 # The crates that these crates are made of, lowest first, as crates.txt has them.
 crates_of_program() {

@@ -1,7 +1,7 @@
 # Sourced by ./bestagon and tools/explain: which files the words of a command name.
 
-# Sets `names` to the words behind the command that are no options, and `net`, `lib`, `design` and `cert` to the
-# first four. Up to a word `--` an option takes the word behind it, where it has no `=`.
+# Sets `names` to the words behind the command that are no options, and of `net`, `lib`, `design` and `cert` those that
+# the command has, in its order. Up to a word `--` an option takes the word behind it, where it has no `=`.
 find_files() {
     local word value= ended=
     names=()
@@ -16,7 +16,12 @@ find_files() {
             names+=("$word")
         fi
     done
-    net=${names[0]-} lib=${names[1]-} design=${names[2]-} cert=${names[3]-}
+    net='' lib='' design='' cert=''
+    case ${1-} in
+        sample) ;;
+        extract) lib=${names[0]-} design=${names[1]-} ;;
+        *) net=${names[0]-} lib=${names[1]-} design=${names[2]-} cert=${names[3]-} ;;
+    esac
 }
 
 # Whether by the words of `design` a file is written that is another of the four, by this name or another one. It sets

@@ -1,7 +1,7 @@
 mod Offs
 mod Permits
 mod Unproved
-mod Parts
+pub mod Parts
 mod Stages
 mod Judging
 mod Meanings

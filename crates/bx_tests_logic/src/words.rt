@@ -78,6 +78,21 @@ const TAKEN: &[(&str, &str)] = &[
     ("design 5 6 7 8", "5 6 7 8 100 144 144 100000 4"),
     // The two files that are read may be one.
     ("design n n d c", "n n d c 100 144 144 100000 4"),
+    ("verify n l d c", "verify n l d c 4"),
+    ("verify n l d c --workers 1", "verify n l d c 1"),
+    (
+        "verify --workers=0000000016 n l -- -d c",
+        "verify n l -d c 16",
+    ),
+    ("extract l d", "extract l d"),
+    ("extract -- -l --", "extract -l --"),
+    // Files that no command writes may all be one.
+    ("verify n n n n", "verify n n n n 4"),
+    ("extract l l", "extract l l"),
+    // The least and the most numbers of a sample, and leading zeros.
+    ("sample 0 1 0", "sample 0 1 0"),
+    ("sample 2147483647 32 10000", "sample 2147483647 32 10000"),
+    ("sample 0000000003 02 -- 0000000001", "sample 3 2 1"),
 ];
 
 // Words that no command is named by.
@@ -140,6 +155,9 @@ const USAGES: &[&str] = &[
     "sample 1 1 0 0",
     "sample 1 1 -1",
     "sample 1 1 0 --workers 4",
+    "sample 1 1 0 --number 1",
+    "sample x y",
+    "verify --help",
 ];
 
 // Words with a first fault behind their use, and the fault.
@@ -224,6 +242,9 @@ const FAULTS: &[(&str, &str)] = &[
     ("sample 2147483647 33 10001", "range gates"),
     ("sample 2147483647 32 10001", "range extra"),
     ("sample  1 0", "number number"),
+    ("sample -- -1 1 0", "number number"),
+    ("sample 1 1 -", "number extra"),
+    ("sample 1 0 x", "number extra"),
 ];
 
 #[test]

@@ -30,8 +30,8 @@ pub fn say_dimacs(rt: &HostRuntime, network: &MappedNet, ratio: Ratio) -> io::Re
     }
 }
 
-// The formula under the permit of all forms, or why there is none.
-fn formula(
+/// The formula under the permit of all forms, or why there is none.
+pub(crate) fn formula(
     alloc: Global,
     network: &MappedNet,
     ratio: Ratio,

@@ -4,10 +4,12 @@
 #![tactic(auto)]
 
 mod dimacs;
+mod search;
 
 ghost use Rattle.bx_lex.specs.Tokens.{HasTokens};
 
 use crate::dimacs::say_dimacs;
+use crate::search::say_search;
 use bx_forms::Kind;
 use bx_grid::Ratio;
 use bx_lex::{Tokens, read_tokens};
@@ -37,6 +39,8 @@ enum Stage {
     Map,
     /// The formula of its network on a grid.
     Dimacs(Ratio),
+    /// The search of that formula, within a budget.
+    Search(Ratio, u64),
 }
 
 impl Stage {
@@ -195,6 +199,7 @@ fn run(rt: &HostRuntime, stage: Stage, text: &[u8]) -> io::Result<bool> {
     };
     match stage {
         Stage::Dimacs(ratio) => say_dimacs(rt, &network, ratio),
+        Stage::Search(ratio, budget) => say_search(rt, &network, ratio, budget),
         _ => say_map(rt, &net, &network),
     }
 }
@@ -206,6 +211,11 @@ fn task_of(words: &[String]) -> Option<(Stage, &str)> {
         [stage, path, w, h] if stage.as_str() == "dimacs" => {
             let ratio = ratio_of(w.as_str(), h.as_str())?;
             Some((Stage::Dimacs(ratio), path.as_str()))
+        }
+        [stage, path, w, h, budget] if stage.as_str() == "search" => {
+            let ratio = ratio_of(w.as_str(), h.as_str())?;
+            let budget = budget.as_str().parse::<u64>().ok()?;
+            Some((Stage::Search(ratio, budget), path.as_str()))
         }
         _ => None,
     }
@@ -221,7 +231,9 @@ fn ratio_of(w: &str, h: &str) -> Option<Ratio> {
 fn main(rt: HostRuntime) -> io::Result<ExitCode> {
     let words: Vec<String> = env::args(&rt)?.skip(1).collect(rt.alloc())?;
     let Some((stage, path)) = task_of(&words) else {
-        println!(rt; "the words are STAGE FILE or dimacs FILE COLUMNS ROWS")?;
+        println!(rt;
+            "the words are STAGE FILE, dimacs FILE COLUMNS ROWS or search FILE COLUMNS ROWS BUDGET"
+        )?;
         return Ok(ExitCode::FAILURE);
     };
     let text = fs::read(&rt, path)?;

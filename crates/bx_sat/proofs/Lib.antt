@@ -2,6 +2,5 @@ pub mod Endings
 pub mod Writing
 pub mod Values
 pub mod ValueLines
-pub mod Stopping
 pub mod Numbers
 pub mod Found

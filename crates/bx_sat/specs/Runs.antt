@@ -13,13 +13,13 @@ use Rattle.bx_sat.specs.declared.solving.Answer.{Answer}
 use Rattle.bx_sat.specs.declared.solving.Answer.TheVariants.{Unsatisfiable}
 use Rattle.bx_sat.specs.Answers.{finding_status, finding_text, answer_status, answer_text}
 use Rattle.bx_sat.specs.Files.{IsFormulaIn, IsProofIn, IsBadLineIn, FailsToRead, FailsToWrite}
-use Rattle.bx_sat.specs.Solving.{IsAnswerTo}
+use Rattle.bx_sat.specs.Solving.{IsAnswerTo, IsRight}
 use Rattle.bx_sat.specs.Sayings.{EndsSaying, bad_line_text}
 use Rattle.bx_sat.specs.Checking.{IsFinding}
-use Rattle.bx_sat.specs.Words.{Request, check, solve}
+use Rattle.bx_sat.specs.Words.{Request, check, solve, solve_fast}
 
 abbrev pub usage_text : Text
-usage_text = codes "the words are check FORMULA PROOF [--workers N] or solve FORMULA BUDGET [PROOF]\n"
+usage_text = codes "the words are check FORMULA PROOF [--workers N], solve FORMULA BUDGET [PROOF] or solve FORMULA --fast CONFLICTS [PROOF]\n"
 
 -- there is no answer: the text of the file of this name is stuck at a line, which is said; or the file can't be read, or
 -- memory was refused, and nothing is written or said
@@ -60,9 +60,23 @@ pub data EndsSolve (name : Text) (budget : ℕ) (proof : Option Text) (old new :
       → FailsToKeep old new answer proof → result ≡ Failed → EndsSolve name budget proof old new result
   no_formula : Unanswered None name old new result → EndsSolve name budget proof old new result
 
+-- it says an answer for the formula in a file that is right, whoever found it, and before that keeps the proof: values
+-- make all its clauses true, there are none only where a log is accepted, and of one that isn't known nothing is said
+-- but that; of a solution it says the values of the variables that the file declares, which the formula has; where the
+-- proof can't be kept, it says nothing
+pub data EndsFast (name : Text) (proof : Option Text) (old new : DeskState) (result : SatStatus) : Type 0 where
+  solved : (mid : DeskState) (read : DimacsFormula) (answer : Answer)
+      → IsFormulaIn old name read → read.vars ≤ read.clauses.vars → IsRight read.clauses answer
+      → KeepsProof old mid answer proof
+      → EndsSaying mid new (answer_status answer) (answer_text read.vars answer) result → EndsFast name proof old new result
+  unkept : (read : DimacsFormula) (answer : Answer) → IsFormulaIn old name read → IsRight read.clauses answer
+      → FailsToKeep old new answer proof → result ≡ Failed → EndsFast name proof old new result
+  no_formula : Unanswered None name old new result → EndsFast name proof old new result
+
 -- What is asked for is done, or said to be wrong; and where nothing is asked for, the usage is said. How many workers
 -- check a proof makes no difference.
 abbrev pub EndsRun : Option Request → DeskState → DeskState → SatStatus → Type 0
 EndsRun (Some (check formula proof workers)) old new result = EndsCheck formula proof old new result
 EndsRun (Some (solve formula budget proof)) old new result = EndsSolve formula budget proof old new result
+EndsRun (Some (solve_fast formula conflicts proof)) old new result = EndsFast formula proof old new result
 EndsRun None old new result = EndsSaying old new Words usage_text result

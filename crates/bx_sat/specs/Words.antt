@@ -2,6 +2,7 @@
 use Rattle.std.specs.Prelude.{ℕ, ◌^◌, ◌&&◌, not, Bool, List, [], ◌∷◌, length, map, codes, nat_lt, Option, Some, None, option_map, if◌then◌else◌, String, string_bytes}
 use Rattle.std.specs.Char.{is_ascii_digit}
 use Rattle.std.specs.List.{list_all}
+use Rattle.std.specs.Option.{option_or}
 use Rattle.std.specs.Str.{bytes_eq}
 use Rattle.std.specs.Str.Parse.{digits_value}
 use Rattle.bx_says.specs.Texts.{Text}
@@ -10,11 +11,12 @@ use Rattle.bx_says.specs.Texts.{Text}
 abbrev pub texts : {A : Type 0} → List (String A) → List Text
 texts words = map string_bytes words
 
--- check the proof in a file for the formula in another, with so many workers, or solve the formula within a budget, and
--- write the proof that it has no solution where there is a name for it
+-- check the proof in a file for the formula in another, with so many workers, or solve the formula, within a budget or
+-- fast over so many conflicts, and write the proof that it has no solution where there is a name for it
 pub data Request : Type 0 where
   check : (formula proof : Text) (workers : ℕ) → Request
   solve : (formula : Text) (budget : ℕ) (proof : Option Text) → Request
+  solve_fast : (formula : Text) (conflicts : ℕ) (proof : Option Text) → Request
 
 -- a number is one decimal digit or more, and below 2^64: leading zeros are taken, and signs aren't
 abbrev pub is_number : Text → Bool
@@ -54,9 +56,27 @@ of_five verb formula proof option workers =
     if bytes_eq verb (codes "check") && bytes_eq option (codes "--workers") then option_map (check formula proof) (workers_of workers)
     else None
 
+-- `check`, or `solve` within a budget
+abbrev pub plain_of : List Text → Option Request
+plain_of (verb ∷ formula ∷ third ∷ []) = of_three verb formula third
+plain_of (verb ∷ formula ∷ third ∷ proof ∷ []) = of_four verb formula third proof
+plain_of (verb ∷ formula ∷ proof ∷ option ∷ workers ∷ []) = of_five verb formula proof option workers
+plain_of words = None
+
+abbrev pub asks_fast : Text → Text → Bool
+asks_fast verb option = bytes_eq verb (codes "solve") && bytes_eq option (codes "--fast")
+
+-- `solve FORMULA --fast CONFLICTS`, and `solve FORMULA --fast CONFLICTS PROOF`, where a proof isn't written over its formula
+abbrev pub fast_of : List Text → Option Request
+fast_of (verb ∷ formula ∷ option ∷ conflicts ∷ []) =
+    if asks_fast verb option then option_map (λ n. solve_fast formula n None) (number_of conflicts)
+    else None
+fast_of (verb ∷ formula ∷ option ∷ conflicts ∷ proof ∷ []) =
+    if asks_fast verb option && not (bytes_eq formula proof)
+    then option_map (λ n. solve_fast formula n (Some proof)) (number_of conflicts)
+    else None
+fast_of words = None
+
 -- other words ask for nothing
 abbrev pub request_of : List Text → Option Request
-request_of (verb ∷ formula ∷ third ∷ []) = of_three verb formula third
-request_of (verb ∷ formula ∷ third ∷ proof ∷ []) = of_four verb formula third proof
-request_of (verb ∷ formula ∷ proof ∷ option ∷ workers ∷ []) = of_five verb formula proof option workers
-request_of words = None
+request_of words = option_or (fast_of words) (plain_of words)

@@ -1,8 +1,8 @@
-//! The words of a command line: a command with its files, its budget or its workers, or none.
+//! The words of a command line: a command with its files, its budget, its conflicts or its workers, or none.
 ghost use Rattle.std.specs.Prelude.{◌≡◌, option_map};
 ghost use Rattle.std.specs.List.{list_all};
 ghost use Rattle.std.specs.Char.{is_ascii_digit};
-ghost use Rattle.bx_sat.specs.Words.{texts, request_of, number_of as number_in, workers_of as workers_in};
+ghost use Rattle.bx_sat.specs.Words.{texts, request_of, plain_of, fast_of, asks_fast as is_fast, number_of as number_in, workers_of as workers_in};
 ghost use Rattle.bx_sat.specs.Commands.{request_by, number_by};
 
 use crate::workers::Workers;
@@ -28,12 +28,52 @@ pub(crate) enum Command<'a> {
         budget: u64,
         proof: Option<&'a str>,
     },
+    /// Solve a formula by the fast search, and write the proof where there is a file for it.
+    SolveFast {
+        formula: &'a str,
+        conflicts: u64,
+        proof: Option<&'a str>,
+    },
 }
 
 impl<'a> Command<'a> {
     /// The command that these words ask for, if they ask for one. A proof isn't written over its formula.
     pub(crate) fn of_words(words: &'a [String]) -> Option<Self>
         ensures { option_map request_by result ≡ request_of (texts words.now) }
+    {
+        match Self::fast_of_words(words) {
+            Some(command) => Some(command),
+            None => Self::plain_of_words(words),
+        }
+    }
+
+    // The fast search that they ask for.
+    fn fast_of_words(words: &'a [String]) -> Option<Self>
+        ensures { option_map request_by result ≡ fast_of (texts words.now) }
+    {
+        match words {
+            [verb, formula, option, conflicts] if asks_fast(verb.as_str(), option.as_str()) => {
+                Some(Command::SolveFast {
+                    formula: formula.as_str(),
+                    conflicts: number_of(conflicts.as_str())?,
+                    proof: None,
+                })
+            }
+            [verb, formula, option, conflicts, proof]
+                if asks_fast(verb.as_str(), option.as_str()) && formula != proof => {
+                Some(Command::SolveFast {
+                    formula: formula.as_str(),
+                    conflicts: number_of(conflicts.as_str())?,
+                    proof: Some(proof.as_str()),
+                })
+            }
+            _ => None,
+        }
+    }
+
+    // The check, or the search within a budget, that they ask for.
+    fn plain_of_words(words: &'a [String]) -> Option<Self>
+        ensures { option_map request_by result ≡ plain_of (texts words.now) }
     {
         match words {
             [verb, formula, proof] if verb.as_str() == "check" => Some(Command::Check {
@@ -66,6 +106,13 @@ impl<'a> Command<'a> {
             _ => None,
         }
     }
+}
+
+// Whether a verb and an option ask for the fast search.
+fn asks_fast(verb: &str, option: &str) -> bool
+    ensures { result ≡ is_fast verb.now option.now }
+{
+    verb == "solve" && option == "--fast"
 }
 
 // The number of workers of a word: a number from 1 to 16.

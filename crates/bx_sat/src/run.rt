@@ -7,14 +7,14 @@ ghost use Rattle.bx_proof.specs.Steps.{StepList};
 ghost use Rattle.bx_proof.specs.Texts.{log_text};
 ghost use Rattle.bx_sat.specs.Commands.{name_of};
 ghost use Rattle.bx_sat.specs.Files.{LeavesUnread, FailsToWrite};
-ghost use Rattle.bx_sat.specs.Runs.{EndsRun, EndsCheck, EndsSolve, KeepsProof, FailsToKeep, Unanswered};
+ghost use Rattle.bx_sat.specs.Runs.{EndsRun, EndsCheck, EndsSolve, EndsFast, KeepsProof, FailsToKeep, Unanswered};
 ghost use Rattle.bx_sat.specs.Words.{texts, request_of};
 
 use crate::checking::verify;
 use crate::command::Command;
 use crate::load::{Unread, load_formula, load_proof};
 use crate::say::{say, say_answer, say_bad_line, say_finding};
-use crate::solving::{Answer, decide};
+use crate::solving::{Answer, decide, decide_fast};
 use crate::status::SatStatus;
 use bx_desk::{Desk, Failed, Piece};
 use bx_logic::NoMemory;
@@ -24,11 +24,12 @@ use std::thread::Threads;
 
 // What is said where the words are no command.
 const USAGE: &[u8] =
-    b"the words are check FORMULA PROOF [--workers N] or solve FORMULA BUDGET [PROOF]\n";
+    b"the words are check FORMULA PROOF [--workers N], solve FORMULA BUDGET [PROOF] or \
+solve FORMULA --fast CONFLICTS [PROOF]\n";
 
-/// Does what the words ask for: `check FORMULA PROOF [--workers N]` checks a proof, and `solve FORMULA BUDGET
-/// [PROOF]` solves a formula, and writes the proof where it has no solution. Where they ask for nothing it says
-/// what the words are.
+/// Does what the words ask for: `check FORMULA PROOF [--workers N]` checks a proof, `solve FORMULA BUDGET
+/// [PROOF]` and `solve FORMULA --fast CONFLICTS [PROOF]` solve a formula, and write the proof where it has no
+/// solution. Where they ask for nothing it says what the words are.
 pub fn run_sat<T: Threads + Sync, D: Desk>(
     threads: &T,
     alloc: Global,
@@ -52,6 +53,13 @@ pub fn run_sat<T: Threads + Sync, D: Desk>(
                 proof,
             },
         ) => solve_file(alloc, formula, budget, proof, desk),
+        Some(
+            Command::SolveFast {
+                formula,
+                conflicts,
+                proof,
+            },
+        ) => solve_file_fast(alloc, formula, conflicts, proof, desk),
         None => say(USAGE, SatStatus::Words, desk),
     }
 }
@@ -98,6 +106,31 @@ fn solve_file<D: Desk>(
         Err(fault) => return say_unread(formula, fault, desk),
     };
     let answer = match decide(alloc, &read.clauses, budget) {
+        Ok(answer) => answer,
+        Err(NoMemory) => return SatStatus::NoMemory,
+    };
+    if keep_proof(&answer, proof, desk).is_err() {
+        return SatStatus::Failed;
+    }
+    say_answer(&answer, read.vars, desk)
+}
+
+// Likewise, by the fast search over so many conflicts.
+fn solve_file_fast<D: Desk>(
+    alloc: Global,
+    formula: &str,
+    conflicts: u64,
+    proof: Option<&str>,
+    desk: &mut D,
+) -> SatStatus
+    ensures { EndsFast formula.now (name_of proof.entry)
+        (D.state desk.old) (D.state desk.new) result }
+{
+    let read = match load_formula(alloc, formula, desk) {
+        Ok(read) => read,
+        Err(fault) => return say_unread(formula, fault, desk),
+    };
+    let answer = match decide_fast(alloc, &read.clauses, conflicts) {
         Ok(answer) => answer,
         Err(NoMemory) => return SatStatus::NoMemory,
     };

@@ -15,7 +15,7 @@ pub enum SatStatus {
     Satisfiable,
     /// There is no solution, the proof is in its file, and that was said.
     Unsatisfiable,
-    /// The budget ended, and that was said.
+    /// The budget, or the conflicts, ended, and that was said.
     Unknown,
     /// A file could not be read or is too long, or a file or output could not be written.
     Failed,

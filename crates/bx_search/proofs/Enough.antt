@@ -1,6 +1,6 @@
 -- A budget that is enough: no learned clause but an empty one equals an earlier one, there are few clauses, and
 -- each step costs little.
-use Rattle.std.proofs.Common.{◌≡◌, ◌≢◌, ℕ, zero, suc, ◌+◌, ◌-◌, ◌*◌, ◌^◌, ◌<◌, ◌≤◌, inl, inr, false, ◌==◌, List, [], ◌∷◌, ◌++◌, length, get_or, map, reverse, Option, Some, None, slice_get, refl, sym, ◌∙◌, ap, subst, arith, length-append}
+use Rattle.std.proofs.Common.{◌≡◌, ◌≢◌, ℕ, zero, suc, ◌+◌, ◌-◌, ◌*◌, ◌^◌, ◌<◌, ◌≤◌, inl, inr, ◌==◌, List, [], ◌∷◌, ◌++◌, length, get_or, map, reverse, Option, Some, None, slice_get, refl, sym, ◌∙◌, ap, subst, arith, length-append}
 use Rattle.std.specs.Prelude.{Contains, nat_le, option_to_list}
 use Rattle.std.proofs.Math.Nat.{mul-le-mul_right}
 use Rattle.std.proofs.lemmas.Bool.{cases_eq, eq-eqb, eqb-true}
@@ -20,7 +20,7 @@ use Rattle.bx_search.specs.declared.outcome.Outcome.{Outcome}
 use Rattle.bx_search.specs.declared.outcome.Outcome.TheVariants.{Undecided}
 use Rattle.bx_search.specs.States.{Assigned, State, clauses_of, literals_of, current_level}
 use Rattle.bx_search.specs.Learning.{IsLearned, of_level, treated, treated_from, variables, reason_variables, is_marked, is_replaced, keeping, replacing}
-use Rattle.bx_search.specs.Searching.{Goes, After, IsSearch, IsConflict, up_to, learned, cost, enough}
+use Rattle.bx_search.specs.Searching.{Goes, After, IsSearch, IsConflict, up_to, cost, enough}
 use Rattle.bx_search.specs.Searching.Goes.{Propagates, Decides, Learns}
 use Rattle.bx_search.proofs.Kept.{by_treatment, nothing_of_level_0}
 use Rattle.bx_search.proofs.Rising.{rises-after, one_of_the_current_level}

@@ -4,4 +4,3 @@ pub mod Searching
 pub mod Trails
 pub mod Solving
 pub mod Marks
-pub mod Beats

@@ -15,11 +15,11 @@ mod learn;
 mod marks;
 mod outcome;
 mod propagate;
-mod pulse;
 mod search;
 mod solver;
+mod tally;
 mod trail;
 
 pub use outcome::Outcome;
-pub use pulse::{Pulse, Steady};
-pub use search::solve;
+pub use search::{solve, solve_counted};
+pub use tally::Tally;

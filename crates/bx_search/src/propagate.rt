@@ -24,6 +24,7 @@ impl Solver<'_> {
             (Unit id lit) }
         ensures { OnOk result (Becomes self.old self.new (propagated (state_of self.old) id lit)) }
     {
+        self.tally.add_propagation();
         self.trail.push_unit(lit, id)?;
         self.phases[lit.var() as usize - 1] = lit.is_positive();
         self.queue.assigned(lit.var());

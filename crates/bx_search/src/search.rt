@@ -11,11 +11,12 @@ ghost use Rattle.bx_search.specs.declared.outcome.Outcome.{Outcome as End};
 
 use crate::learn::Learned;
 use crate::outcome::Outcome;
-use crate::pulse::Pulse;
 use crate::solver::Solver;
+use crate::tally::Tally;
 use bx_cnf::{Bits, Clauses};
 use bx_logic::NoMemory;
 use bx_proof::Steps;
+use bx_pulse::Pulse;
 use std::alloc::Global;
 use std::mem;
 
@@ -70,6 +71,30 @@ pub fn solve<P: Pulse>(
 {
     let mut solver = Solver::new(alloc, clauses)?;
     solver.answer(alloc, budget, pulse)
+}
+
+/// Searches as `solve` does, with the same end, and tells how much was done, for who measures.
+///
+/// # Errors
+///
+/// `NoMemory`. The pulse may have been asked, and never answered no.
+pub fn solve_counted<P: Pulse>(
+    alloc: Global,
+    clauses: &Clauses,
+    budget: u64,
+    pulse: &mut P,
+) -> Result<(Outcome, Tally), NoMemory>
+    requires ready { P.ready pulse.old }
+    requires room { length clauses.now.clauses + budget ≤ 4294967295 }
+    ensures ended { IfOk result (λ counted. counted.0 ≢ Outcome.Stopped
+        → (n : ℕ) × IsSearch clauses.now budget counted.0 n
+        × (P.asked pulse.new ≡ P.asked pulse.old + n)) }
+    ensures stopped { IfOk result (λ counted. counted.0 ≡ Outcome.Stopped
+        → P.stops pulse.new ≡ P.stops pulse.old + 1) }
+{
+    let mut solver = Solver::new(alloc, clauses)?;
+    let end = solver.answer(alloc, budget, pulse)?;
+    Ok((end, solver.tally))
 }
 
 /// Why a search goes no further.

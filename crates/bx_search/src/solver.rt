@@ -11,6 +11,7 @@ ghost use Rattle.bx_search.specs.Searching.{IsQuiet};
 ghost use Rattle.bx_search.specs.Solving.{IsSolver, state_of, GoesTo, Moves, Finds};
 
 use crate::analyze::Analysis;
+use crate::tally::Tally;
 use crate::trail::Trail;
 use bx_cnf::Clauses;
 use bx_logic::NoMemory;
@@ -32,6 +33,8 @@ pub(crate) struct Solver<'a> {
     // what the steps cost
     pub(crate) spent: u64,
     pub(crate) analysis: Analysis,
+    // what was done so far, for who measures
+    pub(crate) tally: Tally,
 }
 
 /// What comes next in a search.
@@ -91,6 +94,7 @@ impl<'a> Solver<'a> {
             steps: Steps::new(alloc, first),
             spent: 0,
             analysis: Analysis::new(alloc, vars)?,
+            tally: Tally::new(),
         })
     }
 
@@ -151,7 +155,10 @@ impl<'a> Solver<'a> {
         loop {
             match self.next()? {
                 Next::Assigned => {}
-                Next::Conflict(id) => return Ok(Some(id)),
+                Next::Conflict(id) => {
+                    self.tally.add_conflict();
+                    return Ok(Some(id));
+                }
                 Next::Complete => return Ok(None),
             }
         }

@@ -1,10 +1,14 @@
-//! Formulas that are decided with the budget that is enough for their variables, and one that isn't with a
-//! budget of one less.
+//! Formulas that are decided with the budget that is enough for their variables, one that isn't with a budget
+//! of one less, and how much a search does.
+ghost use Rattle.std.specs.Prelude.{◌≡◌, ◌+◌, ◌<◌, ◌≤◌, length};
 
 use bx_cnf::{Clauses, Lit, is_clause};
-use bx_search::{Outcome, Steady, solve};
+use bx_pulse::Steady;
+use bx_search::{Outcome, solve, solve_counted};
 use std::alloc::Global;
+use std::marker::Brand;
 use std::process::Abort;
+use std::sync::ledger::{Blank, Ledger};
 use std::test::Fail;
 
 // The formula of clauses of these numbers, each ended by 0.
@@ -40,7 +44,22 @@ fn words_of(alloc: Global, clauses: &Clauses, budget: u64) -> Result<String, Fai
     if budget > 1_000_000 || clauses.len() > 1_000_000 {
         return Err("too much".into());
     }
-    let mut pulse = Steady::new();
+    words_of_steady::<Brand>(alloc, clauses, budget, Blank::new(1))
+}
+
+// The same, where a new ledger counts how often the pulse is asked.
+fn words_of_steady<L: Ledger>(
+    alloc: Global,
+    clauses: &Clauses,
+    budget: u64,
+    blank: Blank,
+) -> Result<String, Fail>
+    requires room { length clauses.now.clauses + budget ≤ 4294967295 }
+    requires name { blank.name ≡ L.name }
+    requires parts { blank.parts ≡ L.parts }
+    requires some { 0 < blank.parts }
+{
+    let mut pulse = Steady::<L>::new(blank);
     let end = solve(alloc, clauses, budget, &mut pulse)?;
     Ok(match end {
         Outcome::Sat(_) => format!(in alloc; "sat")?,
@@ -78,5 +97,35 @@ fn a_budget_is_enough(rt: HostRuntime) -> Result<(), Fail> {
         let found = words_of(rt.alloc(), &clauses, budget)?;
         is_text(&rt, found.as_str(), wanted);
     }
+    Ok(())
+}
+
+// How much the search of a formula does, in words.
+fn counts_of<L: Ledger>(
+    alloc: Global,
+    clauses: &Clauses,
+    budget: u64,
+    blank: Blank,
+) -> Result<String, Fail>
+    requires room { length clauses.now.clauses + budget ≤ 4294967295 }
+    requires name { blank.name ≡ L.name }
+    requires parts { blank.parts ≡ L.parts }
+    requires some { 0 < blank.parts }
+{
+    let mut pulse = Steady::<L>::new(blank);
+    let (_, tally) = solve_counted(alloc, clauses, budget, &mut pulse)?;
+    let (conflicts, propagations) = (tally.conflicts, tally.propagations);
+    Ok(format!(in alloc; "{conflicts} conflicts, {propagations} propagations")?)
+}
+
+// Variable 1 is decided to be false, which gives 2 a value and a conflict; the learned clause gives 1, and then 2.
+#[test]
+fn a_search_is_counted(rt: HostRuntime) -> Result<(), Fail> {
+    let clauses = formula(rt.alloc(), 2, SQUARE)?;
+    if clauses.len() > 100 {
+        return Err("too many clauses".into());
+    }
+    let found = counts_of::<Brand>(rt.alloc(), &clauses, 45, Blank::new(1))?;
+    is_text(&rt, found.as_str(), "2 conflicts, 3 propagations");
     Ok(())
 }

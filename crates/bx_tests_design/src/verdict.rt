@@ -1,6 +1,6 @@
 //! Verdicts of the ratios of a wire, an input that leads to an output, under permits that lack some of its forms,
 //! and within budgets at their edges. The steps come from another solver or were worked out by hand.
-ghost use Rattle.std.specs.Prelude.{◌≤◌, IsTrue, length};
+ghost use Rattle.std.specs.Prelude.{◌≡◌, ◌<◌, ◌≤◌, IsTrue, length};
 ghost use Rattle.bx_grid.specs.Tiles.{tile_count, IsGrid};
 ghost use Rattle.bx_verdict.specs.Settling.{AreInOrder};
 
@@ -8,13 +8,16 @@ use crate::asserts::is_text;
 use bx_cnf::{Bits, Lit};
 use bx_encode::{MOST_AREA, MOST_NODES};
 use bx_grid::{CountProof, Limits, Ratio, Ratios};
+use bx_layout::Permit;
 use bx_logic::NoMemory;
 use bx_network::MappedNet;
 use bx_proof::{Refutation, Steps};
+use bx_pulse::Steady;
 use bx_samples::{passing, without};
-use bx_search::Steady;
 use bx_verdict::{Ended, Last, MOST_SEARCH_BUDGET, Settled, Trial, judge, settle};
 use std::alloc::Global;
+use std::marker::Brand;
+use std::sync::ledger::{Blank, Ledger};
 use std::test::Fail;
 
 // ---- One ratio
@@ -47,8 +50,35 @@ fn judged(alloc: Global, ratio: Ratio, left_out: &[u8], budget: u64) -> Result<S
     if budget > MOST_SEARCH_BUDGET || !is_small(&net, ratio) {
         return Err("too much".into());
     }
-    let mut pulse = Steady::new();
-    match judge(alloc, &net, &without(left_out), ratio, budget, &mut pulse)? {
+    judged_steadily::<Brand>(
+        alloc,
+        &net,
+        &without(left_out),
+        ratio,
+        budget,
+        Blank::new(1),
+    )
+}
+
+// The same, where a new ledger counts how often the pulse is asked.
+fn judged_steadily<L: Ledger>(
+    alloc: Global,
+    net: &MappedNet,
+    permit: &Permit,
+    ratio: Ratio,
+    budget: u64,
+    blank: Blank,
+) -> Result<String, Fail>
+    requires grid { IsGrid ratio }
+    requires nodes { length net.now.nodes ≤ MOST_NODES }
+    requires area { tile_count ratio ≤ MOST_AREA }
+    requires budget { budget ≤ MOST_SEARCH_BUDGET }
+    requires name { blank.name ≡ L.name }
+    requires parts { blank.parts ≡ L.parts }
+    requires some { 0 < blank.parts }
+{
+    let mut pulse = Steady::<L>::new(blank);
+    match judge(alloc, net, permit, ratio, budget, &mut pulse)? {
         Trial::Ended(end) => Ok(line_of_end(alloc, &end)?),
         Trial::Stopped => Err("stopped".into()),
     }

@@ -5,7 +5,8 @@ use crate::asserts::{is_number, is_text};
 use crate::made::{add, formula, push_steps};
 use crate::samples::{SQUARE, WIRE};
 use bx_cnf::{Bits, Clauses, Lit};
-use bx_search::{Outcome, Pulse, solve};
+use bx_pulse::Pulse;
+use bx_search::{Outcome, solve};
 use std::alloc::Global;
 use std::test::Fail;
 

@@ -1,6 +1,6 @@
 //! What is known of ratios in their order, and who finds it out: one ratio after the other, up to the first that
 //! isn't refuted.
-ghost use Rattle.std.specs.Prelude.{◌≤◌, length, IfOk};
+ghost use Rattle.std.specs.Prelude.{◌≡◌, ◌<◌, ◌≤◌, length, IfOk};
 ghost use Rattle.bx_grid.specs.Tiles.{tile_count, IsGrid};
 ghost use Rattle.bx_layout.specs.Permits.{test_of};
 ghost use Rattle.bx_verdict.specs.Settling.{AreInOrder, AreSettled, ShowInOrder};
@@ -14,8 +14,10 @@ use bx_layout::Permit;
 use bx_logic::NoMemory;
 use bx_network::MappedNet;
 use bx_proof::Refutation;
-use bx_search::Steady;
+use bx_pulse::Steady;
 use std::alloc::Global;
+use std::marker::Brand;
+use std::sync::ledger::{Blank, Ledger};
 
 /// What is known of ratios in their order.
 #[derive(Drop)]
@@ -78,8 +80,7 @@ pub fn settle(
     })
 }
 
-// The verdict of a ratio. No pulse stops it: one that says yes as often as 64 bits count is asked once for each
-// learned clause, and so for each of which the budget pays.
+// The verdict of a ratio. No pulse stops it.
 fn judge_to_the_end(
     alloc: Global,
     net: &MappedNet,
@@ -94,9 +95,32 @@ fn judge_to_the_end(
     ensures exact { IfOk result (IsVerdict net.now (test_of permit.now) ratio budget) }
     ensures shows { IfOk result (Shows net.now (test_of permit.now) ratio) }
 {
-    let mut pulse = Steady::new();
+    judge_steadily::<Brand>(alloc, net, permit, ratio, budget, Blank::new(1))
+}
+
+// The same, where a new ledger counts how often the pulse is asked.
+fn judge_steadily<L: Ledger>(
+    alloc: Global,
+    net: &MappedNet,
+    permit: &Permit,
+    ratio: Ratio,
+    budget: u64,
+    blank: Blank,
+) -> Result<Ended, NoMemory>
+    requires grid { IsGrid ratio }
+    requires nodes { length net.now.nodes ≤ MOST_NODES }
+    requires area { tile_count ratio ≤ MOST_AREA }
+    requires budget { budget ≤ MOST_SEARCH_BUDGET }
+    requires name { blank.name ≡ L.name }
+    requires parts { blank.parts ≡ L.parts }
+    requires some { 0 < blank.parts }
+    ensures exact { IfOk result (IsVerdict net.now (test_of permit.now) ratio budget) }
+    ensures shows { IfOk result (Shows net.now (test_of permit.now) ratio) }
+{
+    let mut pulse = Steady::<L>::new(blank);
     match judge(alloc, net, permit, ratio, budget, &mut pulse)? {
         Trial::Ended(end) => Ok(end),
+        // A steady pulse never says no.
         Trial::Stopped => unreachable!(),
     }
 }

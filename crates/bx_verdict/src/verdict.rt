@@ -15,7 +15,8 @@ use bx_layout::Permit;
 use bx_logic::NoMemory;
 use bx_network::MappedNet;
 use bx_proof::Refutation;
-use bx_search::{Outcome, Pulse, solve};
+use bx_pulse::Pulse;
+use bx_search::{Outcome, solve};
 use std::alloc::Global;
 
 /// The largest budget of a search. With it the clauses of a formula and those that are learned are still numbered

@@ -1,8 +1,8 @@
 //! The pulse of a worker's searches: each time that a search asks whether it is still wanted, the worker's seat
 //! looks.
 
+use bx_pulse::Pulse;
 use bx_race::{Race, RaceSeat};
-use bx_search::Pulse;
 
 /// A seat of a race with a current index, while that one is tried.
 #[derive(Drop)]

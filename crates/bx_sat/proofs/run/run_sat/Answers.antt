@@ -15,3 +15,7 @@ returns-in-Some-Solve g c =
 pub returns-in-None : goal.returns-in-None
 returns-in-None g c =
     subst (λ (asks : Option Request). EndsRun asks (g.D.Desk.state c.args.desk.now) (g.D.Desk.state c.say.new.desk) c.say.result) c.in-None.ensures c.say.ensures
+
+pub returns-in-Some-SolveFast : goal.returns-in-Some-SolveFast
+returns-in-Some-SolveFast g c =
+    subst (λ (asks : Option Request). EndsRun asks (g.D.Desk.state c.args.desk.now) (g.D.Desk.state c.solve_file_fast.new.desk) c.solve_file_fast.result) (sym (ap (λ x. Some (request_by x)) c.in-Some-SolveFast.field-0-is) ∙ c.in-Some-SolveFast.ensures) c.solve_file_fast.ensures

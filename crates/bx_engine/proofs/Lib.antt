@@ -17,6 +17,7 @@ pub mod Answers
 pub mod PlainNames
 pub mod Worth
 pub mod Least
+pub mod Verified
 pub mod Existence
 pub mod Reported
 pub mod Clauses

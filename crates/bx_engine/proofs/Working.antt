@@ -23,14 +23,17 @@ use Rattle.bx_library.specs.Tiles.{Tiles}
 use Rattle.bx_logic.specs.Nets.{Netlist}
 use Rattle.bx_network.specs.Networks.{Network}
 use Rattle.bx_siqad.specs.Designs.{Drawing}
-use Rattle.bx_verify.specs.Answers.{IsVerdict}
+use Rattle.bx_verify.specs.Answers.{IsVerdict, IsUnmapped}
 use Rattle.bx_verify.specs.Failing.{OfFound, NoneFails, IsFirstToFail}
 use Rattle.bx_verify.specs.Meaning.{IsMinimal, Means}
 use Rattle.bx_verify.specs.declared.fault.VerifyFault.{VerifyFault}
 use Rattle.bx_verify.specs.declared.verdict.Part.{Part}
 use Rattle.bx_verify.specs.declared.verdict.Verdict.{Verdict}
 use Rattle.bx_verify.specs.declared.verdict.Verdict.TheVariants as verdict
+use Rattle.bx_map.specs.Faults.{IsMapFault}
 use Rattle.bx_map.specs.Maps.{mapping_of}
+use Rattle.bx_map.specs.declared.map.MapFault.{MapFault}
+use Rattle.bx_map.specs.declared.map.MapFault.TheVariants as map_fault
 use Rattle.bx_verilog.specs.Elaboration.{net_of}
 use Rattle.bx_verilog.specs.Formulas.{Text}
 use Rattle.bx_words.specs.declared.commands.ExtractCommand.{ExtractCommand}
@@ -55,7 +58,7 @@ use Rattle.bx_engine.specs.Steps.{EndsGiving, given, ungiven, HasReply, EndsJob,
 use Rattle.bx_engine.specs.Samples.{sample_limits, summary_text}
 use Rattle.bx_engine.specs.Statuses.{status_of}
 use Rattle.bx_engine.specs.Tasks.{Names, Inputs, AreTold, inputs_of}
-use Rattle.bx_engine.specs.Texts.{IsRefused, IsRefusedLibrary, IsTakenLibrary, by_module, by_library}
+use Rattle.bx_engine.specs.Texts.{IsMapped, IsRefused, IsRefusedLibrary, IsTakenLibrary, by_module, by_library}
 use Rattle.bx_engine.specs.Verdicts.{status_for, verdict_text}
 use Rattle.bx_engine.proofs.Endings.{gives_refusal}
 
@@ -300,6 +303,19 @@ pub is_judged : (net : Netlist) (lib : Tiles) (drawing : Drawing) (cert : Certif
     → IsVerdict (mapping_of net) lib drawing cert v × Means net lib drawing cert v
 is_judged net lib drawing cert r (verdict.Minimal ratio) is minimal wrong means = (minimal ratio is, means ratio is)
 is_judged net lib drawing cert r (verdict.Wrong part k) is minimal wrong means = (wrong part k is, tt)
+
+-- the net of a module that is read was mapped, so nothing is in the way of mapping it again
+pub mapped_again : (net : Netlist) (N : Network) (told : Option Files) (name : Text) (fault : MapFault) → ReadsModule told name net N → IsUnmapped net fault → ⊥
+mapped_again net N told name fault read un =
+    by fault un.fault_is un.told
+  where
+    mapped_net : IsMapped net
+    mapped_net = subst IsMapped (sym read.has_module.same) read.has_module.taken.is_mapped
+
+    by : (f : MapFault) → IsMapFault net 96 f → (f ≡ map_fault.NoMemory → ⊥) → ⊥
+    by (map_fault.ConstantOutput j) is told = let none = mapped_net.no_constant in cc
+    by (map_fault.TooManyNodes count) is told = let few = mapped_net.few in let many = is.2 in let counted = is.1 in omega arith
+    by map_fault.NoMemory is told = told refl
 
 -- ---- to sample
 

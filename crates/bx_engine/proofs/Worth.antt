@@ -22,7 +22,7 @@ use Rattle.bx_layout.specs.declared.layout.Layout.{Layout}
 use Rattle.bx_lex.proofs.Cuts.{tokens_spans, tokens_whole}
 use Rattle.bx_library.specs.Tiles.{Tiles}
 use Rattle.bx_logic.specs.Nets.{IsNet}
-use Rattle.bx_logic.specs.Behaviours.{net_behaviour}
+use Rattle.bx_logic.specs.Behaviours.{SameBehaviour, net_behaviour}
 use Rattle.bx_logic.proofs.Behaviours.{same-sym, same-trans}
 use Rattle.bx_map.specs.Maps.{mapping_of}
 use Rattle.bx_map.proofs.Mapping.{mapping_of-is_network}
@@ -76,6 +76,9 @@ module _ (text : Text) (m : ModuleTree) (taken : IsTaken text m) where
   pub network-is : IsNetwork (network_of m)
   network-is = mapping_of-is_network (net_of m) net-is taken.is_mapped.no_constant few
 
+  pub net-computed : SameBehaviour (net_behaviour (net_of m)) (network_behaviour (length (net_of m).inputs) (network_of m))
+  net-computed = mapped-computes (net_of m) net-is taken.is_mapped.no_constant few
+
   pub module-computed : ComputesModule (net_of m) (module_of m) (network_of m)
   module-computed =
       let inputs : ℕ = length (net_of m).inputs in
@@ -85,7 +88,7 @@ module _ (text : Text) (m : ModuleTree) (taken : IsTaken text m) where
         outputs = output-ports (net_of m) net-is taken.is_mapped.no_constant;
         meaning =
             same-trans (network_behaviour inputs (network_of m)) (net_behaviour (net_of m)) (module_behaviour (module_of m))
-            (same-sym (net_behaviour (net_of m)) (network_behaviour inputs (network_of m)) (mapped-computes (net_of m) net-is taken.is_mapped.no_constant few))
+            (same-sym (net_behaviour (net_of m)) (network_behaviour inputs (network_of m)) net-computed)
             (same-behaviour m tree taken.good.accepted);
       }
 

@@ -14,3 +14,4 @@ pub mod Effects
 pub mod Runs
 pub mod Steps
 pub mod Worth
+pub mod ReadBack

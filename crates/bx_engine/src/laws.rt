@@ -5,4 +5,5 @@ pub mod effects;
 pub mod limits;
 pub mod reports;
 pub mod tasks;
+pub mod verified;
 pub mod worth;

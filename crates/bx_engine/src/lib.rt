@@ -18,5 +18,6 @@ mod write;
 pub use bx_words::{Opt, WordFault};
 pub use engine::run;
 pub use load::{Module, NoInput, cut_design, load_cert, load_design, load_library, load_module};
-pub use say::refuse;
+pub use say::{end_saying, refuse, refuse_words};
 pub use status::{InputFault, Status, Which};
+pub use verify::say_verdict;

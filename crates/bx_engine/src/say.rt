@@ -54,7 +54,7 @@ pub fn refuse<D: Desk>(desk: &mut D, fault: InputFault) -> Status
 }
 
 /// Says the refusal of words.
-pub(crate) fn refuse_words<D: Desk>(desk: &mut D, fault: WordFault) -> Status
+pub fn refuse_words<D: Desk>(desk: &mut D, fault: WordFault) -> Status
     ensures { EndsSaying (D.state desk.old) (D.state desk.new) (Status.Words fault)
         (refusal_text (word_fault_text fault)) result }
 {
@@ -66,7 +66,7 @@ pub(crate) fn refuse_words<D: Desk>(desk: &mut D, fault: WordFault) -> Status
 }
 
 /// Hands on what a piece holds, and ends with the status if that is said.
-pub(crate) fn end_saying<D: Desk>(mut piece: Piece, desk: &mut D, status: Status) -> Status
+pub fn end_saying<D: Desk>(mut piece: Piece, desk: &mut D, status: Status) -> Status
     requires { IsToSay piece }
     ensures { EndsSaying (D.state desk.old) (D.state desk.new) status (pending piece) result }
 {

@@ -137,12 +137,13 @@ fn judge<T: Threads + Sync, D: Desk>(
     ) {
         Ok(verdict) => say_verdict(cert, verdict, desk),
         // (the module's net was mapped when it was read)
-        Err(VerifyFault::Map(_) | VerifyFault::NoMemory) => Status::NoMemory,
+        Err(VerifyFault::Map(_)) => unreachable!(),
+        Err(VerifyFault::NoMemory) => Status::NoMemory,
     }
 }
 
-// Says a verdict.
-fn say_verdict<D: Desk>(cert: &Cert, verdict: Verdict, desk: &mut D) -> Status
+/// Says a verdict, and ends with its status.
+pub fn say_verdict<D: Desk>(cert: &Cert, verdict: Verdict, desk: &mut D) -> Status
     ensures { EndsSaying (D.state desk.old) (D.state desk.new) (status_for verdict)
         (verdict_text cert.now verdict) result }
 {

@@ -1,8 +1,8 @@
-mod Offs
 mod Permits
 mod Unproved
+pub mod Offs
 pub mod Parts
-mod Stages
+pub mod Stages
 mod Judging
-mod Meanings
+pub mod Meanings
 mod Exact

@@ -1,7 +1,7 @@
 use Rattle.std.proofs.Common.{refl}
 use Rattle.bx_engine.specs.Steps.{judgement_of, out_of_memory}
 use Rattle.bx_engine.specs.Verdicts.{status_for, verdict_text}
-use Rattle.bx_engine.proofs.Working.{job_told, has_verdict, is_judged}
+use Rattle.bx_engine.proofs.Working.{job_told, has_verdict, is_judged, mapped_again}
 use Rattle.bx_engine.proofs.verify.judge.Goals as goal
 
 pub returns-in-Ok : goal.returns-in-Ok
@@ -11,5 +11,8 @@ returns-in-Ok g c =
     (has_verdict _ c.args.command.now c.args.source.now.net c.args.source.now.mapped c.requires.module c.args.library.now c.requires.library c.args.design.now c.requires.design c.args.cert.now c.requires.cert c.in-Ok.verdict judged means)
     c.say_verdict.ensures
 
-pub returns-in-Err-Map : goal.returns-in-Err-Map
-returns-in-Err-Map g c = out_of_memory refl
+pub returns-in-Err-NoMemory : goal.returns-in-Err-NoMemory
+returns-in-Err-NoMemory g c = out_of_memory refl
+
+pub unreachable-requires : goal.unreachable-requires
+unreachable-requires g c = mapped_again c.args.source.now.net c.args.source.now.mapped _ c.args.command.now.net.now c.in-Err-Map.field-0-0 c.requires.module (c.verify.ensures.map_only c.in-Err-Map.field-0-0 (cc (c.in-Err-Map.is, c.in-Err-Map.field-0-is)))

@@ -1,2 +1,4 @@
+pub mod Dotted
 pub mod Escapes
+pub mod Frames
 pub mod Pictures

@@ -1,21 +1,25 @@
-//! Drawing a grid, part by part, through a printer.
-ghost use Rattle.std.specs.Prelude.{◌≡◌, ◌<◌, ◌^◌, flat_map};
+//! Drawing a grid, part by part, through a printer. What stands around it is the frame's, and the dots are drawn over it
+//! by the module of dots.
+ghost use Rattle.std.specs.Prelude.{◌≡◌, ◌<◌, ◌^◌, ◌==◌, flat_map};
+ghost use Rattle.std.specs.List.{position};
 ghost use Rattle.bx_desk.specs.Desk.{CanPut};
 ghost use Rattle.bx_desk.specs.Pieces.{target_of, PutsOut};
 ghost use Rattle.bx_desk.specs.Printing.{Prints};
 ghost use Rattle.bx_desk.specs.Words.{word_text};
 ghost use Rattle.bx_lines.specs.Lines.{ended};
-ghost use Rattle.bx_draw.specs.Pictures.{head_text, legend_text, middle_x, name_y, picture_text, port_text, ports_text, row_of, symbol, tile_text, tiles_text};
+ghost use Rattle.bx_draw.specs.Pictures.{body_text, labels_of, labels_text, label_text, label_of, legend_text, middle_x, name_y, node_text, picture_text, row_of, symbol, tile_text, tiles_text};
 
 use crate::escape::print_escaped;
+use crate::frame::print_head;
 use crate::port::{Place, PortName};
 use crate::symbols::{LEGEND, SYMBOLS};
 use bx_desk::{Desk, Failed, Piece, Printer, Word};
 use bx_forms::Form;
-use bx_grid::column_and_row;
+use bx_grid::{Ratio, column_and_row};
 use bx_layout::FormGrid;
 
-/// Puts out the picture of a grid, with these names of ports. Takes no memory.
+/// Puts out the picture of a grid, with these names of ports, and with the number of each node that stands on one of
+/// these tiles, by number. Takes no memory.
 ///
 /// # Errors
 ///
@@ -23,54 +27,48 @@ use bx_layout::FormGrid;
 pub fn draw_grid<D: Desk>(
     grid: &FormGrid,
     ports: &[PortName],
+    places: &[u32],
     piece: &mut Piece,
     desk: &mut D,
 ) -> Result<(), Failed>
     requires { CanPut (target_of piece.old) (D.state desk.old) }
     ensures { PutsOut (D.state desk.old) (D.state desk.new) result piece.old piece.new
-        (picture_text grid.now ports.now) }
+        (picture_text grid.now (labels_of ports.now) places.now) }
 {
     let mut printer = Printer::new(piece, desk);
-    print_picture(grid, ports, &mut printer);
+    print_picture(grid, ports, places, &mut printer);
     printer.outcome()
 }
 
 // Likewise, through a printer.
-fn print_picture<D: Desk>(grid: &FormGrid, ports: &[PortName], printer: &mut Printer<D>)
-    ensures { Prints printer.old printer.new (picture_text grid.now ports.now) }
+fn print_picture<D: Desk>(
+    grid: &FormGrid,
+    ports: &[PortName],
+    places: &[u32],
+    printer: &mut Printer<D>,
+)
+    ensures { Prints printer.old printer.new
+        (picture_text grid.now (labels_of ports.now) places.now) }
 {
-    let ratio = grid.ratio();
-    let rows = u64::from(ratio.h);
-    print_head(u64::from(ratio.w), rows, printer);
-    print_lines(&SYMBOLS, printer);
-    print_tiles(grid, printer);
-    print_ports(rows, ports, printer);
-    print_legend(rows, printer);
+    print_head(grid.ratio(), printer);
+    print_body(grid, ports, places, printer);
     printer.bytes(b"</svg>\n");
 }
 
-// What stands before the tiles.
-fn print_head<D: Desk>(w: u64, h: u64, printer: &mut Printer<D>)
-    requires wide { w < 2 ^ 32 }
-    requires high { h < 2 ^ 32 }
-    ensures { Prints printer.old printer.new (head_text w h) }
+/// Prints the symbols, the tiles, the names and the legend.
+pub(crate) fn print_body<D: Desk>(
+    grid: &FormGrid,
+    ports: &[PortName],
+    places: &[u32],
+    printer: &mut Printer<D>,
+)
+    ensures { Prints printer.old printer.new (body_text grid.now (labels_of ports.now) places.now) }
 {
-    printer.words(&[
-        Word::Text(
-            b"<?xml version=\"1.0\" encoding=\"UTF-8\"?>\n<svg xmlns=\"http://www.w3.org/2000/svg\" ",
-        ),
-        Word::Text(
-            b"xmlns:xlink=\"http://www.w3.org/1999/xlink\" version=\"1.1\" viewBox=\"-10 -40 ",
-        ),
-        Word::Number(104 * w + 72),
-        Word::Text(b" "),
-        Word::Number(90 * h + 190),
-        Word::Text(b"\">\n<title>A layout of "),
-        Word::Number(w),
-        Word::Text(b" by "),
-        Word::Number(h),
-        Word::Text(b" tiles</title>\n"),
-    ]);
+    let ratio = grid.ratio();
+    print_lines(&SYMBOLS, printer);
+    print_tiles(grid, places, printer);
+    print_ports(u64::from(ratio.h), ports, printer);
+    print_legend(ratio, printer);
 }
 
 // These lines.
@@ -91,21 +89,35 @@ fn print_line<D: Desk>(line: &str, printer: &mut Printer<D>)
 }
 
 // Each tile of the grid, once.
-fn print_tiles<D: Desk>(grid: &FormGrid, printer: &mut Printer<D>)
-    ensures { Prints printer.old printer.new (tiles_text grid.now) }
+fn print_tiles<D: Desk>(grid: &FormGrid, places: &[u32], printer: &mut Printer<D>)
+    ensures { Prints printer.old printer.new (tiles_text grid.now places.now) }
 {
     let ratio = grid.ratio();
     for t in 0..ratio.w * ratio.h {
         let (x, y) = column_and_row(ratio, t);
-        print_tile(u64::from(x), u64::from(y), grid.tile(t), printer);
+        let node = node_on(places, t);
+        print_tile(u64::from(x), u64::from(y), grid.tile(t), node, printer);
     }
 }
 
+// The node that stands on a tile.
+fn node_on(places: &[u32], tile: u32) -> Option<usize>
+    ensures { result ≡ position (λ place. place == tile) places.now }
+{
+    places.iter().position(|place| *place == tile)
+}
+
 // A tile at a column and a row.
-fn print_tile<D: Desk>(x: u64, y: u64, tile: Option<Form>, printer: &mut Printer<D>)
+fn print_tile<D: Desk>(
+    x: u64,
+    y: u64,
+    tile: Option<Form>,
+    node: Option<usize>,
+    printer: &mut Printer<D>,
+)
     requires column { x < 2 ^ 32 }
     requires row { y < 2 ^ 32 }
-    ensures { Prints printer.old printer.new (tile_text x y tile) }
+    ensures { Prints printer.old printer.new (tile_text x y tile node) }
 {
     let name = Word::Text(symbol_of(tile));
     printer.words(&[
@@ -123,10 +135,23 @@ fn print_tile<D: Desk>(x: u64, y: u64, tile: Option<Form>, printer: &mut Printer
         Word::Number(y),
         Word::Text(b", clock zone "),
         Word::Number(y % 4),
+    ]);
+    print_node(node, printer);
+    printer.words(&[
         Word::Text(b"</title><use xlink:href=\"#tile\"/><use xlink:href=\"#"),
         name,
         Word::Text(b"\"/></g>\n"),
     ]);
+}
+
+// What is told of the node on a tile, if one is known.
+fn print_node<D: Desk>(node: Option<usize>, printer: &mut Printer<D>)
+    ensures { Prints printer.old printer.new (node_text node) }
+{
+    if let Some(node) = node {
+        printer.bytes(b", node ");
+        printer.number(node as u64);
+    }
 }
 
 // How far right the middle of a tile stands, by its column and row.
@@ -150,7 +175,7 @@ fn symbol_of(tile: Option<Form>) -> &'static [u8]
 // The names of ports, at a grid of so many rows.
 fn print_ports<D: Desk>(rows: u64, ports: &[PortName], printer: &mut Printer<D>)
     requires { rows < 2 ^ 32 }
-    ensures { Prints printer.old printer.new (ports_text rows ports.now) }
+    ensures { Prints printer.old printer.new (labels_text rows (labels_of ports.now)) }
 {
     for port in ports {
         print_port(rows, port, printer);
@@ -160,7 +185,7 @@ fn print_ports<D: Desk>(rows: u64, ports: &[PortName], printer: &mut Printer<D>)
 // The name of a port.
 fn print_port<D: Desk>(rows: u64, port: &PortName, printer: &mut Printer<D>)
     requires { rows < 2 ^ 32 }
-    ensures { Prints printer.old printer.new (port_text rows port.now) }
+    ensures { Prints printer.old printer.new (label_text rows (label_of port.now)) }
 {
     let row = row_beside(port.place, rows);
     printer.words(&[
@@ -196,16 +221,21 @@ fn height_of(place: Place, rows: u64) -> Word<'static>
     }
 }
 
-// The legend, below a grid of so many rows.
-fn print_legend<D: Desk>(h: u64, printer: &mut Printer<D>)
-    requires { h < 2 ^ 32 }
-    ensures { Prints printer.old printer.new (legend_text h) }
+// The legend, below a grid of these sides.
+fn print_legend<D: Desk>(ratio: Ratio, printer: &mut Printer<D>)
+    ensures { Prints printer.old printer.new (legend_text ratio) }
 {
     printer.words(&[
         Word::Text(b"<g transform=\"translate(24 "),
-        Word::Number(90 * h + 94),
+        Word::Number(90 * u64::from(ratio.h) + 94),
         Word::Text(b")\">\n"),
     ]);
     print_lines(&LEGEND, printer);
-    printer.bytes(b"</g>\n");
+    printer.words(&[
+        Word::Text(b"<text class=\"k\" x=\"54\" y=\"52\">"),
+        Word::Number(u64::from(ratio.w)),
+        Word::Text(b" by "),
+        Word::Number(u64::from(ratio.h)),
+        Word::Text(b" tiles</text>\n</g>\n"),
+    ]);
 }

@@ -1,7 +1,7 @@
 //! What is drawn on tiles, as data: an outline, and a symbol for each form under the form's name, round the middle of
 //! a tile that is 104 wide and 120 high. What enters or leaves by a side does so at the middle of that side: 26 left or
 //! right of the middle, and 45 above or below it. The four colours of the clock zones stay apart in grey too. A legend
-//! explains them.
+//! explains them. Dots that are drawn over the tiles stand out by their colour and by a white edge.
 
 /// The styles and the symbols.
 pub(crate) static SYMBOLS: [&str; 37] = [
@@ -9,7 +9,7 @@ pub(crate) static SYMBOLS: [&str; 37] = [
     "<style type=\"text/css\">",
     ".z0{fill:#fffbe6}.z1{fill:#f9d58a}.z2{fill:#8fc1dd}.z3{fill:#5d8fb0}",
     ".h{stroke:#444;stroke-width:2}.w{fill:none;stroke:#111;stroke-width:5;stroke-linecap:round}.b{fill:#fff;stroke:#111;stroke-width:3}",
-    "circle{fill:#111}text{font-family:sans-serif;text-anchor:middle;fill:#111;stroke:none}.t{font-size:17px;font-weight:bold}.p{font-size:18px}.k{font-size:14px}",
+    "circle{fill:#111}.d circle{fill:#c00020;stroke:#fff;stroke-width:20}text{font-family:sans-serif;text-anchor:middle;fill:#111;stroke:none}.t{font-size:17px;font-weight:bold}.p{font-size:18px}.k{font-size:14px}",
     "</style>",
     "<path id=\"tile\" class=\"h\" d=\"M0 -60L52 -30V30L0 60L-52 30V-30Z\"/>",
     "<g id=\"empty\"/>",
@@ -50,5 +50,5 @@ pub(crate) static LEGEND: [&str; 5] = [
     "<g class=\"z1\" transform=\"translate(36 0) scale(0.3)\"><use xlink:href=\"#tile\"/></g><text class=\"k\" x=\"36\" y=\"5\">1</text>",
     "<g class=\"z2\" transform=\"translate(72 0) scale(0.3)\"><use xlink:href=\"#tile\"/></g><text class=\"k\" x=\"72\" y=\"5\">2</text>",
     "<g class=\"z3\" transform=\"translate(108 0) scale(0.3)\"><use xlink:href=\"#tile\"/></g><text class=\"k\" x=\"108\" y=\"5\">3</text>",
-    "<text class=\"k\" x=\"54\" y=\"36\">clock zones</text>",
+    "<text class=\"k\" x=\"54\" y=\"34\">clock zones</text>",
 ];

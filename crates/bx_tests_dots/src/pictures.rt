@@ -1,11 +1,13 @@
-//! Pictures of form grids: each form has a symbol, each tile is drawn once, and names are escaped.
+//! Pictures of form grids: each form has a symbol, each tile is drawn once, names are escaped, and dots lie where the
+//! lattice has them.
 
 use crate::asserts::{are_bytes, holds, is_number};
 use bx_desk::{MemDesk, Piece};
-use bx_draw::{Place, PortName, draw_grid};
+use bx_draw::{Place, PortName, draw_dots, draw_grid};
 use bx_forms::Form;
 use bx_grid::Ratio;
 use bx_layout::FormGrid;
+use bx_library::{Dot, read_library};
 use std::alloc::Global;
 use std::process::Abort;
 use std::test::Fail;
@@ -16,7 +18,7 @@ fn picture(alloc: Global, tiles: &[Option<Form>], ports: &[PortName]) -> Result<
     desk.say_room(40_000)?;
     let grid = row(alloc, tiles)?;
     let mut piece = Piece::to_say();
-    draw_grid(&grid, ports, &mut piece, &mut desk)?;
+    draw_grid(&grid, ports, &[], &mut piece, &mut desk)?;
     piece.end(&mut desk)?;
     Ok(desk)
 }
@@ -84,14 +86,15 @@ fn a_tile_is_drawn_where_it_lies(rt: HostRuntime) -> Result<(), Fail> {
 
 const FRONT: &[u8] =
     b"<?xml version=\"1.0\" encoding=\"UTF-8\"?>\n<svg xmlns=\"http://www.w3.org/2000/svg\" \
-xmlns:xlink=\"http://www.w3.org/1999/xlink\" version=\"1.1\" viewBox=\"-10 -40 280 370\">\n\
+xmlns:xlink=\"http://www.w3.org/1999/xlink\" version=\"1.1\" viewBox=\"-52 -75 364 450\">\n\
 <title>A layout of 2 by 2 tiles</title>\n<defs>\n";
 
 const TILES: &[&str] = &[
-    "<g class=\"z0\" transform=\"translate(52 60)\"><title>input_r at column 0, row 0, clock zone 0</title>",
+    "<g class=\"z0\" transform=\"translate(52 60)\"><title>input_r at column 0, row 0, clock zone 0, node 1</title>",
     "<g class=\"z0\" transform=\"translate(156 60)\"><title>empty at column 1, row 0, clock zone 0</title>",
-    "<g class=\"z1\" transform=\"translate(104 150)\"><title>output_r at column 0, row 1, clock zone 1</title>",
+    "<g class=\"z1\" transform=\"translate(104 150)\"><title>output_r at column 0, row 1, clock zone 1, node 0</title>",
     "<g class=\"z1\" transform=\"translate(208 150)\"><title>cross at column 1, row 1, clock zone 1</title>",
+    "<text class=\"k\" x=\"54\" y=\"52\">2 by 2 tiles</text>",
 ];
 
 // Draws two columns and two rows.
@@ -104,7 +107,7 @@ fn draw_two_rows(alloc: Global, desk: &mut MemDesk) -> Result<(), Fail> {
     ];
     let grid = FormGrid::new(Ratio { w: 2, h: 2 }, Vec::from_slice(alloc, &forms)?);
     let mut piece = Piece::to_say();
-    draw_grid(&grid, &[], &mut piece, desk)?;
+    draw_grid(&grid, &[], &[2, 0], &mut piece, desk)?;
     Ok(piece.end(desk)?)
 }
 
@@ -161,8 +164,47 @@ fn a_picture_that_finds_no_room_fails(rt: HostRuntime) -> Result<(), Fail> {
     let mut desk = MemDesk::new(rt.alloc());
     let grid = row(rt.alloc(), &[None])?;
     let mut piece = Piece::to_say();
-    let drawn = draw_grid(&grid, &[], &mut piece, &mut desk);
+    let drawn = draw_grid(&grid, &[], &[], &mut piece, &mut desk);
     holds(&rt, drawn.is_err(), "no room");
     are_bytes(&rt, desk.said(), b"", "nothing is said");
     Ok(())
 }
+
+// What a picture of one tile with three dots has, by a library whose tiles are 8 wide and 6 high.
+const DOTTED: &[&str] = &[
+    "viewBox=\"-1728 -4880 7680 18432\">\n<title>A layout of 1 by 1 tiles, in hundredths of an angstrom</title>\n",
+    "<svg x=\"-1728\" y=\"-4880\" width=\"7680\" height=\"18432\" preserveAspectRatio=\"none\" viewBox=\"-52 -75 260 360\">\n<defs>\n",
+    "</g>\n</svg>\n<g class=\"d\">\n<circle cx=\"384\" cy=\"768\" r=\"100\"/>\n",
+    "<circle cx=\"0\" cy=\"2304\" r=\"100\"/>\n",
+    "<circle cx=\"1536\" cy=\"2529\" r=\"100\"/>\n</g>\n</svg>\n",
+];
+
+#[test]
+fn dots_lie_at_their_true_places(rt: HostRuntime) -> Result<(), Fail> {
+    let mut desk = MemDesk::new(rt.alloc());
+    desk.say_room(40_000)?;
+    draw_three_dots(rt.alloc(), &mut desk)?;
+    for text in DOTTED {
+        is_number(&rt, count(desk.said(), text.as_bytes()), 1, text);
+    }
+    Ok(())
+}
+
+// Draws an empty tile, and three dots.
+fn draw_three_dots(alloc: Global, desk: &mut MemDesk) -> Result<(), Fail> {
+    let Ok(library) = read_library(alloc, LIBRARY) else {
+        return Err("no library".into());
+    };
+    let dots = [
+        Dot { m: 1, l: 0, n: 1 },
+        Dot { m: 3, l: 0, n: 0 },
+        Dot { m: 3, l: 1, n: 4 },
+    ];
+    let grid = row(alloc, &[None])?;
+    let mut piece = Piece::to_say();
+    draw_dots(&grid, &[], &[], &library, &dots, &mut piece, desk)?;
+    Ok(piece.end(desk)?)
+}
+
+const LIBRARY: &[u8] =
+    b"{\"name\":\"one\",\"width\":8,\"height\":6,\"forms\":{\"input_l\":[[1,1,0]]}}";

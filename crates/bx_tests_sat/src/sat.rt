@@ -92,12 +92,31 @@ const REFUTED: &[&str] = &[PIGEONS, PARITY, TWO_COLOURS, WIRE, SQUARE];
 #[test]
 fn what_is_refuted_is_verified(rt: HostRuntime) -> Result<(), Fail> {
     for &formula in REFUTED {
-        let mut desk = desk_with(rt.alloc(), formula)?;
-        let status = run(&rt, rt.alloc(), &mut desk, "solve f.cnf 100000 p.lrat")?;
-        is_status(&rt, formula, status, 20);
-        verifies(&rt, rt.alloc(), formula, desk)?;
+        refutes(&rt, rt.alloc(), formula, "solve f.cnf 100000 p.lrat")?;
     }
     Ok(())
+}
+
+// Likewise by the fast search.
+#[test]
+fn what_is_refuted_fast_is_verified(rt: HostRuntime) -> Result<(), Fail> {
+    for &formula in REFUTED {
+        refutes(&rt, rt.alloc(), formula, "solve f.cnf --fast 100000 p.lrat")?;
+    }
+    Ok(())
+}
+
+// A formula has no solution by a run of this line, and its proof is accepted.
+fn refutes<R: Threads + Abort + Sync>(
+    rt: &R,
+    alloc: Global,
+    formula: &str,
+    line: &str,
+) -> Result<(), Fail> {
+    let mut desk = desk_with(alloc, formula)?;
+    let status = run(rt, alloc, &mut desk, line)?;
+    is_status(rt, formula, status, 20);
+    verifies(rt, alloc, formula, desk)
 }
 
 // The proof that was written is accepted.
@@ -142,6 +161,46 @@ fn a_formula_is_solved(rt: HostRuntime) -> Result<(), Fail> {
     for &(formula, budget, status, said) in SOLVED {
         let desk = desk_with(rt.alloc(), formula)?;
         let line = format!(in rt.alloc(); "solve f.cnf {budget}")?;
+        ends(&rt, rt.alloc(), formula, desk, line.as_str(), status, said)?;
+    }
+    Ok(())
+}
+
+// A formula, how many conflicts the fast search has, and the status of a run with what it says. Where there is
+// a solution it is the only one.
+const SOLVED_FAST: &[(&str, &str, u8, &str)] = &[
+    (
+        "p cnf 3 4\n1 2 0\n-1 2 0\n-2 3 0\n-1 -3 0\n",
+        "100",
+        10,
+        "s SATISFIABLE\nv -1 2 3 0\n",
+    ),
+    (
+        "p cnf 2 3\n1 -1 0\n1 0\n-2 0\n",
+        "0",
+        10,
+        "s SATISFIABLE\nv 1 -2 0\n",
+    ),
+    ("p cnf 0 0\n", "0", 10, "s SATISFIABLE\nv 0\n"),
+    ("p cnf 1 1\n0\n", "1", 20, "s UNSATISFIABLE\n"),
+    // an empty clause is a conflict too
+    ("p cnf 1 1\n0\n", "0", 0, "s UNKNOWN\n"),
+    (PIGEONS, "0", 0, "s UNKNOWN\n"),
+    (PIGEONS, "1", 0, "s UNKNOWN\n"),
+    (TWO_COLOURS, "18446744073709551615", 20, "s UNSATISFIABLE\n"),
+    (
+        "p cnf 1 1\nc a comment\n1\nx 0\n",
+        "9",
+        2,
+        "c can't read line 4 of f.cnf\n",
+    ),
+];
+
+#[test]
+fn a_formula_is_solved_fast(rt: HostRuntime) -> Result<(), Fail> {
+    for &(formula, conflicts, status, said) in SOLVED_FAST {
+        let desk = desk_with(rt.alloc(), formula)?;
+        let line = format!(in rt.alloc(); "solve f.cnf --fast {conflicts}")?;
         ends(&rt, rt.alloc(), formula, desk, line.as_str(), status, said)?;
     }
     Ok(())
@@ -255,16 +314,33 @@ const FAILING: &[(&str, u8)] = &[
     ("solve f.cnf 18446744073709551616", 6),
     ("prove f.cnf 10", 6),
     ("solve f.cnf 10 f.cnf", 6),
+    ("solve f.cnf --fast", 6),
+    ("solve f.cnf --fast ten", 6),
+    ("solve f.cnf --fast +10", 6),
+    ("solve f.cnf --fast 18446744073709551616", 6),
+    ("solve f.cnf --fast p.lrat 10", 6),
+    ("solve f.cnf --fast=10", 6),
+    ("solve f.cnf --Fast 10", 6),
+    ("solve f.cnf fast 10", 6),
+    ("solve --fast f.cnf 10", 6),
+    ("solve f.cnf 10 --fast 10", 6),
+    ("solve f.cnf --fast 10 f.cnf", 6),
+    ("solve f.cnf --fast 10 p.lrat more", 6),
+    ("check f.cnf --fast 10", 6),
+    ("check f.cnf --fast 10 p.lrat", 6),
     ("solve none.cnf 10", 4),
+    ("solve none.cnf --fast 10", 4),
     ("check f.cnf none.lrat", 4),
     ("check f.cnf none.lrat --workers 4", 4),
     ("solve f.cnf 1000 none/p.lrat", 4),
+    ("solve f.cnf --fast 1000 none/p.lrat", 4),
 ];
 
 // Words that are no command say what the words are.
 #[test]
 fn the_usage_is_said(rt: HostRuntime) -> Result<(), Fail> {
-    let said = "the words are check FORMULA PROOF [--workers N] or solve FORMULA BUDGET [PROOF]\n";
+    let said = "the words are check FORMULA PROOF [--workers N], solve FORMULA BUDGET [PROOF] or \
+solve FORMULA --fast CONFLICTS [PROOF]\n";
     let desk = desk_with(rt.alloc(), SQUARE)?;
     ends(&rt, rt.alloc(), "usage", desk, "prove f.cnf", 6, said)
 }

@@ -1,11 +1,11 @@
-# Sourced by ./bestagon, ./bestagon-sat, .ci/run and tools/dist, which set `top`, the repository's folder. It says
+# Sourced by ./bestagon, ./bestagon-sat, ./bestagon-draw, .ci/run and tools/dist, which set `top`, the repository's folder. It says
 # which sources the programs are made from, and finds the program of the sources as they stand: the one in dist/
 # where that is theirs and fits this machine, else the one in out/, else it proves and builds it. In out/ a
 # program's name has the stamp of its sources, so both come into being by one rename, and no call can see one
 # without the other.
 
-# The crates of the programs: `bestagon`, the same telling how far it is, and the solver.
-PROGRAMS=(bestagon_cli bestagon_progress bestagon_sat)
+# The crates of the programs: `bestagon`, the same telling how far it is, the one that draws, and the solver.
+PROGRAMS=(bestagon_cli bestagon_progress bestagon_draw bestagon_sat)
 
 # The crates that these crates are made of, lowest first, as crates.txt has them.
 crates_of_program() {

@@ -1,5 +1,5 @@
 //! Tests of the commands that write no file, as whole runs on a desk in memory: what is said of designs and certificates
-//! that are right, wrong in one part or no texts of their kind, of samples, and what comes of each load that fails.
+//! that are right, wrong in one part or no texts of their kind, of samples, of pictures, and what comes of each load that fails.
 //! Expected values were worked out by hand or come from another program.
 #![tactic(auto)]
 
@@ -13,6 +13,8 @@ mod extract;
 mod failing;
 #[cfg(test)]
 mod library;
+#[cfg(test)]
+mod picture;
 #[cfg(test)]
 mod runs;
 #[cfg(test)]
